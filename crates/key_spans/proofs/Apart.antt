@@ -5,12 +5,14 @@ use Rattle.std.specs.Option.{option_or}
 use Rattle.lan_base.specs.declared.association_number.AssociationNumber.{AssociationNumber}
 use Rattle.lan_core.specs.declared.fact.Fact.{Fact}
 use Rattle.lan_core.specs.declared.fact.Fact.TheVariants as shows
+use Rattle.transcript_reader.specs.Time.{moves}
+use Rattle.key_spans.specs.declared.clock.Clock.{Clock}
 use Rattle.key_spans.specs.declared.span.Span.{Span}
 use Rattle.key_spans.specs.declared.span.End.{End}
 use Rattle.key_spans.specs.declared.span.Turn.{Turn}
 use Rattle.key_spans.specs.declared.span.Turn.TheVariants.{Ends, Begins, Relieves}
 use Rattle.key_spans.specs.declared.span.Why.TheVariants.{Replaced}
-use Rattle.key_spans.specs.Spans.{clock_after, lived, opened, spans, spans_from, touched, turn_by, turned}
+use Rattle.key_spans.specs.Spans.{clock_after, lived, opened, spans, spans_from, start, touched, turn_by, turned}
 use Rattle.key_spans.specs.inside.Taking.{HasEnded}
 use Rattle.key_spans.specs.Times.{EndsBy}
 use Rattle.key_spans.proofs.OneMore.{by_sum, ends, opens, stays}
@@ -35,23 +37,9 @@ later : (at : ℕ) → at ≤ most → (b : Bool)
 later at few true = (omega (arith, few), omega (arith, few))
 later at few false = (omega (arith, few), few)
 
-same : (at : ℕ) → at ≤ most → (at ≤ at) × (at ≤ most)
-same at few = (omega arith, few)
-
-pub rises : (at : ℕ) (f : Fact) → at ≤ most → (at ≤ clock_after at f) × (clock_after at f ≤ most)
-rises at (shows.Ticked t now next) few = later at few (t == 0)
-rises at (shows.Life t mi) few = same at few
-rises at (shows.Server t mi) few = same at few
-rises at (shows.Dropped t id a) few = same at few
-rises at (shows.Retired t id a) few = same at few
-rises at (shows.Began t id a epoch cause) few = same at few
-rises at (shows.Installed t id a epoch sak) few = same at few
-rises at (shows.Untaken t id why) few = same at few
-rises at (shows.Framed k t sec xs) few = same at few
-rises at (shows.HeardMka k t verdict) few = same at few
-rises at (shows.Claimed t a epoch pn) few = same at few
-rises at (shows.Unclaimed t why) few = same at few
-rises at (shows.Arrived k t arrival) few = same at few
+pub rises : (at : Clock) (f : Fact) → at.ticks ≤ most
+    → (at.ticks ≤ (clock_after at f).ticks) × ((clock_after at f).ticks ≤ most)
+rises at f few = later at.ticks few (moves at.own f)
 
 -- ---- ends
 
@@ -101,10 +89,10 @@ ends-by at x ended over = go x.ended refl ended
 -- ---- one key, and those that come later
 
 module _ (s : ℕ) (an : AssociationNumber) where
-  lived-ended : (at : ℕ) (facts : List Fact) (x : Span) → HasEnded x → lived s an at facts x ≡ x
+  lived-ended : (at : Clock) (facts : List Fact) (x : Span) → HasEnded x → lived s an at facts x ≡ x
   lived-ended at [] x ended = refl
   lived-ended at (f ∷ facts) x ended =
-      ap (lived s an (clock_after at f) facts) (stays at (turn_by s an f) x ended)
+      ap (lived s an (clock_after at f) facts) (stays at.ticks (turn_by s an f) x ended)
       ∙ lived-ended (clock_after at f) facts x ended
 
   installed-turned : (at : ℕ) (t : Turn) (x : Span) → (turned at t x).installed ≡ x.installed
@@ -125,53 +113,53 @@ module _ (s : ℕ) (an : AssociationNumber) where
       go true = refl
       go false = installed-turned at t x
 
-  pub installed-lived : (at : ℕ) (facts : List Fact) (x : Span) → (lived s an at facts x).installed ≡ x.installed
+  pub installed-lived : (at : Clock) (facts : List Fact) (x : Span) → (lived s an at facts x).installed ≡ x.installed
   installed-lived at [] x = refl
   installed-lived at (f ∷ facts) x =
-      installed-lived (clock_after at f) facts (touched at (turn_by s an f) x)
-      ∙ installed-touched at (turn_by s an f) x
+      installed-lived (clock_after at f) facts (touched at.ticks (turn_by s an f) x)
+      ∙ installed-touched at.ticks (turn_by s an f) x
 
   abbrev After : Span → Span → Type 0
   After x y = EndsBy y.installed x
 
-  abbrev Tail : ℕ → Fact → List Fact → Span → Type 0
-  Tail at f facts x = Every (After (lived s an (clock_after at f) facts (touched at (turn_by s an f) x)))
+  abbrev Tail : Clock → Fact → List Fact → Span → Type 0
+  Tail at f facts x = Every (After (lived s an (clock_after at f) facts (touched at.ticks (turn_by s an f) x)))
       (spans_from s an (clock_after at f) facts)
 
-  abbrev Whole : ℕ → Fact → List Fact → Span → List Span → Type 0
-  Whole at f facts x o = Every (After (lived s an (clock_after at f) facts (touched at (turn_by s an f) x)))
+  abbrev Whole : Clock → Fact → List Fact → Span → List Span → Type 0
+  Whole at f facts x o = Every (After (lived s an (clock_after at f) facts (touched at.ticks (turn_by s an f) x)))
       (map (lived s an (clock_after at f) facts) o ++ spans_from s an (clock_after at f) facts)
 
-  with-first : (at : ℕ) (f : Fact) (facts : List Fact) (x : Span) → IsOver at x → Tail at f facts x
-      → Whole at f facts x (opened s an at f)
-  with-first at f facts x over tail = by_sum (opens s an at f) go-none go-one
+  with-first : (at : Clock) (f : Fact) (facts : List Fact) (x : Span) → IsOver at.ticks x → Tail at f facts x
+      → Whole at f facts x (opened s an at.ticks f)
+  with-first at f facts x over tail = by_sum (opens s an at.ticks f) go-none go-one
     where
-      go-none : opened s an at f ≡ [] → Whole at f facts x (opened s an at f)
+      go-none : opened s an at.ticks f ≡ [] → Whole at f facts x (opened s an at.ticks f)
       go-none none = subst (Whole at f facts x) (sym none) tail
 
-      go-one : (y : Span) × (opened s an at f ≡ y ∷ []) × (turn_by s an f ≡ Some (Ends Replaced))
-          × (y.installed ≡ at) × (y.began ≡ None) × (y.ended ≡ None)
-          → Whole at f facts x (opened s an at f)
+      go-one : (y : Span) × (opened s an at.ticks f ≡ y ∷ []) × (turn_by s an f ≡ Some (Ends Replaced))
+          × (y.installed ≡ at.ticks) × (y.began ≡ None) × (y.ended ≡ None)
+          → Whole at f facts x (opened s an at.ticks f)
       go-one one =
-          let t = touched at (turn_by s an f) x in
-          let ended : HasEnded t = subst (λ (o : Option Turn). HasEnded (touched at o x)) (sym one.2) (ends at Replaced x) in
-          let by : EndsBy at t = ends-by at t ended (over-touched at (turn_by s an f) x over) in
-          let lived-by : EndsBy at (lived s an (clock_after at f) facts t) =
-          subst (EndsBy at) (sym (lived-ended (clock_after at f) facts t ended)) by in
-          let starts : (lived s an (clock_after at f) facts one.0).installed ≡ at =
+          let t = touched at.ticks (turn_by s an f) x in
+          let ended : HasEnded t = subst (λ (o : Option Turn). HasEnded (touched at.ticks o x)) (sym one.2) (ends at.ticks Replaced x) in
+          let by : EndsBy at.ticks t = ends-by at.ticks t ended (over-touched at.ticks (turn_by s an f) x over) in
+          let lived-by : EndsBy at.ticks (lived s an (clock_after at f) facts t) =
+          subst (EndsBy at.ticks) (sym (lived-ended (clock_after at f) facts t ended)) by in
+          let starts : (lived s an (clock_after at f) facts one.0).installed ≡ at.ticks =
           installed-lived (clock_after at f) facts one.0 ∙ one.3 in
           subst (Whole at f facts x) (sym one.1)
           (subst (λ (n : ℕ). EndsBy n (lived s an (clock_after at f) facts t)) (sym starts) lived-by, tail)
 
-  pub apart : (at : ℕ) (facts : List Fact) (x : Span) → at ≤ most → IsOver at x
+  pub apart : (at : Clock) (facts : List Fact) (x : Span) → at.ticks ≤ most → IsOver at.ticks x
       → Every (After (lived s an at facts x)) (spans_from s an at facts)
   apart at [] x few over = tt
   apart at (f ∷ facts) x few over =
       let more = rises at f few in
       with-first at f facts x over
-      (apart (clock_after at f) facts (touched at (turn_by s an f) x) more.1
-      (over-later at (clock_after at f) (touched at (turn_by s an f) x) more.0
-      (over-touched at (turn_by s an f) x over)))
+      (apart (clock_after at f) facts (touched at.ticks (turn_by s an f) x) more.1
+      (over-later at.ticks (clock_after at f).ticks (touched at.ticks (turn_by s an f) x) more.0
+      (over-touched at.ticks (turn_by s an f) x over)))
 
   never : (y : Span) → y.ended ≡ None → (n : ℕ) → IsOver n y
   never y none n e is = absurd (cc (none, is))
@@ -182,25 +170,25 @@ module _ (s : ℕ) (an : AssociationNumber) where
   AreApart [] = Unit {0}
   AreApart (x ∷ xs) = Every (After x) xs × AreApart xs
 
-  abbrev All-apart : ℕ → Fact → List Fact → List Span → Type 0
+  abbrev All-apart : Clock → Fact → List Fact → List Span → Type 0
   All-apart at f facts o =
       AreApart (map (lived s an (clock_after at f) facts) o ++ spans_from s an (clock_after at f) facts)
 
-  first-apart : (at : ℕ) (f : Fact) (facts : List Fact) → at ≤ most
-      → AreApart (spans_from s an (clock_after at f) facts) → All-apart at f facts (opened s an at f)
-  first-apart at f facts few tail = by_sum (opens s an at f) go-none go-one
+  first-apart : (at : Clock) (f : Fact) (facts : List Fact) → at.ticks ≤ most
+      → AreApart (spans_from s an (clock_after at f) facts) → All-apart at f facts (opened s an at.ticks f)
+  first-apart at f facts few tail = by_sum (opens s an at.ticks f) go-none go-one
     where
-      go-none : opened s an at f ≡ [] → All-apart at f facts (opened s an at f)
+      go-none : opened s an at.ticks f ≡ [] → All-apart at f facts (opened s an at.ticks f)
       go-none none = subst (All-apart at f facts) (sym none) tail
 
-      go-one : (y : Span) × (opened s an at f ≡ y ∷ []) × (turn_by s an f ≡ Some (Ends Replaced))
-          × (y.installed ≡ at) × (y.began ≡ None) × (y.ended ≡ None)
-          → All-apart at f facts (opened s an at f)
+      go-one : (y : Span) × (opened s an at.ticks f ≡ y ∷ []) × (turn_by s an f ≡ Some (Ends Replaced))
+          × (y.installed ≡ at.ticks) × (y.began ≡ None) × (y.ended ≡ None)
+          → All-apart at f facts (opened s an at.ticks f)
       go-one one =
           subst (All-apart at f facts) (sym one.1)
-          (apart (clock_after at f) facts one.0 (rises at f few).1 (never one.0 one.5 (clock_after at f)), tail)
+          (apart (clock_after at f) facts one.0 (rises at f few).1 (never one.0 one.5 (clock_after at f).ticks), tail)
 
-  pub all-apart : (at : ℕ) (facts : List Fact) → at ≤ most → AreApart (spans_from s an at facts)
+  pub all-apart : (at : Clock) (facts : List Fact) → at.ticks ≤ most → AreApart (spans_from s an at facts)
   all-apart at [] few = tt
   all-apart at (f ∷ facts) few =
       first-apart at f facts few (all-apart (clock_after at f) facts (rises at f few).1)
@@ -213,4 +201,4 @@ module _ (s : ℕ) (an : AssociationNumber) where
   pub no-overlap : (facts : List Fact) (before between behind : List Span) (x y : Span)
       → spans s an facts ≡ before ++ x ∷ (between ++ y ∷ behind) → EndsBy y.installed x
   no-overlap facts before between behind x y is =
-      apart-at before between behind x y (subst AreApart is (all-apart 0 facts (omega arith)))
+      apart-at before between behind x y (subst AreApart is (all-apart start facts (omega arith)))

@@ -10,6 +10,7 @@ use Rattle.lan_core.specs.Run.{place}
 use Rattle.lan_core.specs.declared.fact.Fact.{Fact}
 use Rattle.lan_core.specs.declared.fact.Fact.TheVariants as shows
 use Rattle.tick_columns.specs.Columns.{IsThinned, Kept as Columns, no_columns}
+use Rattle.key_spans.specs.declared.clock.Clock.{Clock}
 use Rattle.key_spans.specs.declared.span.Span.{Span}
 use Rattle.key_spans.specs.declared.span.Turn.{Turn}
 use Rattle.key_spans.specs.declared.span.Turn.TheVariants.{Ends, Begins, Relieves}
@@ -240,26 +241,26 @@ nothing-after s an at fact old new nothing same all by is =
 rows-here : (fact : Fact) (old mid new : Kept) (rows : Rows) → IsReached old mid
     → slice_get mid.lanes (place fact) ≡ Some rows → IsTakenAt fact mid new rows
     → (s : ℕ) (an : AssociationNumber)
-    → IsRowAfter s an old.clock fact (row_at old.lanes s an) (row_at new.lanes s an)
+    → IsRowAfter s an old.clock.ticks fact (row_at old.lanes s an) (row_at new.lanes s an)
 rows-here fact old mid new rows reached found taken s an = go s (same-place s (place fact))
   where
     Goal : ℕ → Type 0
-    Goal s = IsRowAfter s an old.clock fact (row_at old.lanes s an) (row_at new.lanes s an)
+    Goal s = IsRowAfter s an old.clock.ticks fact (row_at old.lanes s an) (row_at new.lanes s an)
 
     here : Goal (place fact)
     here =
-        subst (λ (k : Columns Span). IsRowAfter (place fact) an old.clock fact k (row_at new.lanes (place fact) an))
+        subst (λ (k : Columns Span). IsRowAfter (place fact) an old.clock.ticks fact k (row_at new.lanes (place fact) an))
         (sym (ap (λ (o : Option Rows). row_of o an) found) ∙ reached.rows_are (place fact) an)
-        (subst (λ (o : Option Rows). IsRowAfter (place fact) an old.clock fact (row_in rows an) (row_of o an))
+        (subst (λ (o : Option Rows). IsRowAfter (place fact) an old.clock.ticks fact (row_in rows an) (row_of o an))
         (sym taken.here)
-        (subst (λ at. IsRowAfter (place fact) an at fact (row_in rows an) (row_in taken.then an)) reached.clock_is
+        (subst (λ (at : Clock). IsRowAfter (place fact) an at.ticks fact (row_in rows an) (row_in taken.then an)) reached.clock_is
         (taken.lane.rows_are an)))
 
     go : (s : ℕ) → (s ≡ place fact) ⊎ (s ≢ place fact) → Goal s
     go s (inl is) = subst (λ p. Goal p) (sym is) here
     go s (inr apart) =
-        nothing-after s an old.clock fact (row_at old.lanes s an) (row_at new.lanes s an)
-        (elsewhere s an old.clock fact apart)
+        nothing-after s an old.clock.ticks fact (row_at old.lanes s an) (row_at new.lanes s an)
+        (elsewhere s an old.clock.ticks fact apart)
         (ap (λ (o : Option Rows). row_of o an) (taken.others s apart) ∙ reached.rows_are s an)
 
 -- those of a fact that installs nothing, at a station without rows
@@ -287,11 +288,11 @@ rows-nowhere fact at lanes none nothing s an = go s (same-place s (place fact))
 rows-taken : (fact : Fact) (old mid new : Kept) (o : Option Rows) → slice_get mid.lanes (place fact) ≡ o
     → IsReached old mid → IsPlaced fact mid → TakesAt fact mid new o (Ok tt)
     → (s : ℕ) (an : AssociationNumber)
-    → IsRowAfter s an old.clock fact (row_at old.lanes s an) (row_at new.lanes s an)
+    → IsRowAfter s an old.clock.ticks fact (row_at old.lanes s an) (row_at new.lanes s an)
 rows-taken fact old mid new None found reached placed taken s an =
-    subst (λ (k : Columns Span). IsRowAfter s an old.clock fact k (row_at new.lanes s an)) (reached.rows_are s an)
-    (subst (λ (k : Kept). IsRowAfter s an old.clock fact (row_at mid.lanes s an) (row_at k.lanes s an)) (sym taken.0)
-    (rows-nowhere fact old.clock mid.lanes found (placed found) s an))
+    subst (λ (k : Columns Span). IsRowAfter s an old.clock.ticks fact k (row_at new.lanes s an)) (reached.rows_are s an)
+    (subst (λ (k : Kept). IsRowAfter s an old.clock.ticks fact (row_at mid.lanes s an) (row_at k.lanes s an)) (sym taken.0)
+    (rows-nowhere fact old.clock.ticks mid.lanes found (placed found) s an))
 rows-taken fact old mid new (Some rows) found reached placed taken s an =
     rows-here fact old mid new rows reached found taken s an
 
@@ -304,10 +305,10 @@ pub taken-whole : (fact : Fact) (old mid next new : Kept) → IsReached old mid 
     → TakesAt fact mid next (slice_get mid.lanes (place fact)) (Ok tt)
     → new.clock ≡ clock_after next.clock fact → new.lanes ≡ next.lanes → IsTaken fact old new
 taken-whole fact old mid next new reached placed taken clock_is same = record {
-  clock_is = clock_is ∙ ap (λ at. clock_after at fact)
+  clock_is = clock_is ∙ ap (λ (at : Clock). clock_after at fact)
       (clock-taken fact mid next (slice_get mid.lanes (place fact)) taken ∙ reached.clock_is);
   rows_are = λ s an.
-      subst (λ (ls : List Rows). IsRowAfter s an old.clock fact (row_at old.lanes s an) (row_at ls s an)) (sym same)
+      subst (λ (ls : List Rows). IsRowAfter s an old.clock.ticks fact (row_at old.lanes s an) (row_at ls s an)) (sym same)
       (rows-taken fact old mid next (slice_get mid.lanes (place fact)) refl reached placed taken s an);
 }
 
@@ -326,7 +327,7 @@ failed-kept fact old mid new None error reached taken = absurd (cc taken.1)
 failed-kept fact old mid new (Some rows) error reached kept = record {
   clock_is = kept.clock_is ∙ reached.clock_is;
   rows_are = λ s an all by is.
-      kept.rows_are s an all (subst (λ at. AreBy at all) (sym reached.clock_is) by)
+      kept.rows_are s an all (subst (λ (at : Clock). AreBy at.ticks all) (sym reached.clock_is) by)
       (subst (λ (k : Columns Span). IsThinned installed_at all k) (sym (reached.rows_are s an)) is);
 }
 

@@ -6,6 +6,7 @@ use Rattle.lan_base.specs.AssociationNumbers.{same_an}
 use Rattle.lan_base.specs.declared.association_number.AssociationNumber.{AssociationNumber}
 use Rattle.lan_core.specs.declared.fact.Fact.{Fact}
 use Rattle.lan_core.specs.declared.fact.Fact.TheVariants as shows
+use Rattle.key_spans.specs.declared.clock.Clock.{Clock}
 use Rattle.key_spans.specs.declared.span.Span.{Span}
 use Rattle.key_spans.specs.declared.span.End.{End}
 use Rattle.key_spans.specs.declared.span.Turn.{Turn}
@@ -19,48 +20,48 @@ pub by_sum : {A B P : Type 0} → A ⊎ B → (A → P) → (B → P) → P
 by_sum (inl a) f g = f a
 by_sum (inr b) f g = g b
 
-pub clock-more : (at : ℕ) (facts : List Fact) (f : Fact)
+pub clock-more : (at : Clock) (facts : List Fact) (f : Fact)
     → clock at (facts ++ f ∷ []) ≡ clock_after (clock at facts) f
 clock-more at [] f = refl
 clock-more at (fact ∷ later) f = clock-more (clock_after at fact) later f
 
 module _ (s : ℕ) (an : AssociationNumber) (f : Fact) where
-  lived-more : (at : ℕ) (facts : List Fact) (span : Span)
+  lived-more : (at : Clock) (facts : List Fact) (span : Span)
       → lived s an at (facts ++ f ∷ []) span
-      ≡ touched (clock at facts) (turn_by s an f) (lived s an at facts span)
+      ≡ touched (clock at facts).ticks (turn_by s an f) (lived s an at facts span)
   lived-more at [] span = refl
   lived-more at (fact ∷ later) span =
-      lived-more (clock_after at fact) later (touched at (turn_by s an fact) span)
+      lived-more (clock_after at fact) later (touched at.ticks (turn_by s an fact) span)
 
-  all-lived : (at : ℕ) (facts : List Fact) (xs : List Span)
+  all-lived : (at : Clock) (facts : List Fact) (xs : List Span)
       → map (lived s an at (facts ++ f ∷ [])) xs
-      ≡ map (touched (clock at facts) (turn_by s an f)) (map (lived s an at facts) xs)
+      ≡ map (touched (clock at facts).ticks (turn_by s an f)) (map (lived s an at facts) xs)
   all-lived at facts [] = refl
   all-lived at facts (x ∷ xs) =
       ap (λ (y : Span). y ∷ map (lived s an at (facts ++ f ∷ [])) xs) (lived-more at facts x)
-      ∙ ap (λ (ys : List Span). touched (clock at facts) (turn_by s an f) (lived s an at facts x) ∷ ys)
+      ∙ ap (λ (ys : List Span). touched (clock at facts).ticks (turn_by s an f) (lived s an at facts x) ∷ ys)
       (all-lived at facts xs)
 
-  none-lived : (at : ℕ) (xs : List Span) → map (lived s an at []) xs ≡ xs
+  none-lived : (at : Clock) (xs : List Span) → map (lived s an at []) xs ≡ xs
   none-lived at [] = refl
   none-lived at (x ∷ xs) = ap (λ (ys : List Span). x ∷ ys) (none-lived at xs)
 
-  pub spans-more : (at : ℕ) (facts : List Fact)
+  pub spans-more : (at : Clock) (facts : List Fact)
       → spans_from s an at (facts ++ f ∷ [])
-      ≡ map (touched (clock at facts) (turn_by s an f)) (spans_from s an at facts)
-      ++ opened s an (clock at facts) f
+      ≡ map (touched (clock at facts).ticks (turn_by s an f)) (spans_from s an at facts)
+      ++ opened s an (clock at facts).ticks f
   spans-more at [] =
-      append-nil (map (lived s an (clock_after at f) []) (opened s an at f))
-      ∙ none-lived (clock_after at f) (opened s an at f)
+      append-nil (map (lived s an (clock_after at f) []) (opened s an at.ticks f))
+      ∙ none-lived (clock_after at f) (opened s an at.ticks f)
   spans-more at (fact ∷ later) =
       let now = clock_after at fact in
-      let t = touched (clock now later) (turn_by s an f) in
-      let own = map (lived s an now later) (opened s an at fact) in
+      let t = touched (clock now later).ticks (turn_by s an f) in
+      let own = map (lived s an now later) (opened s an at.ticks fact) in
       ap (λ (ys : List Span). ys ++ spans_from s an now (later ++ f ∷ []))
-      (all-lived now later (opened s an at fact))
+      (all-lived now later (opened s an at.ticks fact))
       ∙ ap (λ (ys : List Span). map t own ++ ys) (spans-more now later)
-      ∙ sym (append_assoc (map t own) (map t (spans_from s an now later)) (opened s an (clock now later) f))
-      ∙ ap (λ (ys : List Span). ys ++ opened s an (clock now later) f)
+      ∙ sym (append_assoc (map t own) (map t (spans_from s an now later)) (opened s an (clock now later).ticks f))
+      ∙ ap (λ (ys : List Span). ys ++ opened s an (clock now later).ticks f)
       (sym (both t own (spans_from s an now later)))
     where
       both : (t : Span → Span) (xs ys : List Span) → map t (xs ++ ys) ≡ map t xs ++ map t ys

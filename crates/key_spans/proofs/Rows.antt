@@ -7,6 +7,7 @@ use Rattle.lan_base.specs.declared.association_number.AssociationNumber.TheVaria
 use Rattle.std.specs.declared.alloc.AllocError.{AllocError}
 use Rattle.lan_core.specs.declared.fact.Fact.{Fact}
 use Rattle.lan_core.specs.Run.{place}
+use Rattle.key_spans.specs.declared.clock.Clock.{Clock}
 use Rattle.key_spans.specs.Standing.{Kept, Rows, no_rows, row_at, row_in, row_of}
 use Rattle.key_spans.specs.inside.Taking.{IsKeptRow, IsLaneAfter, IsLaneKept, TakesAt}
 
@@ -51,40 +52,40 @@ same-place t s = go (t == s) refl
     go false is = inr (λ e. grind (arith, is, e))
 
 -- rows at a place become others
-pub taken-at : (fact : Fact) (old : Kept) (clock s : ℕ) (xs : List Rows) (given new : Rows)
+pub taken-at : (fact : Fact) (old : Kept) (clock : Clock) (s : ℕ) (xs : List Rows) (given new : Rows)
     (result : Result (Unit {0}) AllocError) → record { clock = clock; lanes = xs } ≡ old → s ≡ place fact
-    → slice_get xs s ≡ Some given → OnOk result (IsLaneAfter (place fact) clock fact given new)
-    → OnErr result (IsLaneKept clock given new)
+    → slice_get xs s ≡ Some given → OnOk result (IsLaneAfter (place fact) clock.ticks fact given new)
+    → OnErr result (IsLaneKept clock.ticks given new)
     → TakesAt fact old (record { clock = clock; lanes = set xs s new }) (slice_get old.lanes (place fact)) result
 taken-at fact old clock s xs given new result view at found ok err =
-    rw (sym view, sym at, found) (go result (subst (λ p. OnOk result (IsLaneAfter p clock fact given new)) (sym at) ok) err)
+    rw (sym view, sym at, found) (go result (subst (λ p. OnOk result (IsLaneAfter p clock.ticks fact given new)) (sym at) ok) err)
   where
-    here : (t : ℕ) (an : AssociationNumber) → t ≡ s → IsLaneKept clock given new
-        → IsKeptRow clock (row_at xs t an) (row_at (set xs s new) t an)
+    here : (t : ℕ) (an : AssociationNumber) → t ≡ s → IsLaneKept clock.ticks given new
+        → IsKeptRow clock.ticks (row_at xs t an) (row_at (set xs s new) t an)
     here t an is kept =
-        subst (λ p. IsKeptRow clock (row_at xs p an) (row_at (set xs s new) p an)) (sym is)
-        (subst (λ (o : Option Rows). IsKeptRow clock (row_of o an) (row_at (set xs s new) s an)) (sym found)
-        (subst (λ (o : Option Rows). IsKeptRow clock (row_in given an) (row_of o an))
+        subst (λ p. IsKeptRow clock.ticks (row_at xs p an) (row_at (set xs s new) p an)) (sym is)
+        (subst (λ (o : Option Rows). IsKeptRow clock.ticks (row_of o an) (row_at (set xs s new) s an)) (sym found)
+        (subst (λ (o : Option Rows). IsKeptRow clock.ticks (row_in given an) (row_of o an))
         (sym (set-here xs s given new found)) (kept.rows_are an)))
 
     there : (t : ℕ) (an : AssociationNumber) → t ≢ s
-        → IsKeptRow clock (row_at xs t an) (row_at (set xs s new) t an)
+        → IsKeptRow clock.ticks (row_at xs t an) (row_at (set xs s new) t an)
     there t an apart =
-        subst (λ (o : Option Rows). IsKeptRow clock (row_at xs t an) (row_of o an)) (sym (set-others xs s t new apart))
+        subst (λ (o : Option Rows). IsKeptRow clock.ticks (row_at xs t an) (row_of o an)) (sym (set-others xs s t new apart))
         (λ all by is. is)
 
-    all : (t : ℕ) (an : AssociationNumber) → IsLaneKept clock given new → (t ≡ s) ⊎ (t ≢ s)
-        → IsKeptRow clock (row_at xs t an) (row_at (set xs s new) t an)
+    all : (t : ℕ) (an : AssociationNumber) → IsLaneKept clock.ticks given new → (t ≡ s) ⊎ (t ≢ s)
+        → IsKeptRow clock.ticks (row_at xs t an) (row_at (set xs s new) t an)
     all t an kept (inl is) = here t an is kept
     all t an kept (inr apart) = there t an apart
 
-    go : (result : Result (Unit {0}) AllocError) → OnOk result (IsLaneAfter s clock fact given new)
-        → OnErr result (IsLaneKept clock given new)
+    go : (result : Result (Unit {0}) AllocError) → OnOk result (IsLaneAfter s clock.ticks fact given new)
+        → OnErr result (IsLaneKept clock.ticks given new)
         → TakesAt fact (record { clock = clock; lanes = xs }) (record { clock = clock; lanes = set xs s new })
         (Some given) result
     go (Ok done) lane none = record {
       then = new;
-      lane = subst (λ p. IsLaneAfter p clock fact given new) at lane;
+      lane = subst (λ p. IsLaneAfter p clock.ticks fact given new) at lane;
       clock_is = refl;
       here = subst (λ p. slice_get (set xs s new) p ≡ Some new) at (set-here xs s given new found);
       others = λ t apart. set-others xs s t new (λ e. apart (e ∙ at));

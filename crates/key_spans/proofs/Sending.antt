@@ -7,12 +7,13 @@ use Rattle.lan_base.specs.AssociationNumbers.{number_of, same_an}
 use Rattle.lan_base.specs.declared.association_number.AssociationNumber.{AssociationNumber}
 use Rattle.lan_core.specs.declared.fact.Fact.{Fact}
 use Rattle.lan_core.specs.declared.fact.Fact.TheVariants as shows
+use Rattle.key_spans.specs.declared.clock.Clock.{Clock}
 use Rattle.key_spans.specs.declared.span.Span.{Span}
 use Rattle.key_spans.specs.declared.span.End.{End}
 use Rattle.key_spans.specs.declared.span.Turn.TheVariants.{Ends, Begins, Relieves}
 use Rattle.key_spans.specs.declared.span.Why.{Why}
 use Rattle.key_spans.specs.declared.span.Why.TheVariants as whys
-use Rattle.key_spans.specs.Spans.{clock_after, lived, opened, spans, spans_from, touched, turn_by, relieved_at}
+use Rattle.key_spans.specs.Spans.{clock_after, lived, opened, spans, spans_from, start, touched, turn_by, relieved_at}
 use Rattle.key_spans.specs.inside.Taking.{HasEnded}
 use Rattle.key_spans.specs.Times.{Transmits, is_held}
 use Rattle.key_spans.proofs.OneMore.{by_sum, ends, opens}
@@ -106,11 +107,11 @@ module _ (s : ℕ) (an : AssociationNumber) where
   step at (shows.Unclaimed t why) x sends = inr (refl, sends)
   step at (shows.Arrived k t arrival) x sends = inr (refl, sends)
 
-  sending : (at : ℕ) (facts : List Fact) (x : Span) → IsSending (lived s an at facts x)
+  sending : (at : Clock) (facts : List Fact) (x : Span) → IsSending (lived s an at facts x)
       → (last_begun s facts ≡ Some (number_of an)) ⊎ ((last_begun s facts ≡ None) × IsSending x)
   sending at [] x sends = inr (refl, sends)
   sending at (f ∷ facts) x sends =
-      by_sum (sending (clock_after at f) facts (touched at (turn_by s an f) x) sends) late early
+      by_sum (sending (clock_after at f) facts (touched at.ticks (turn_by s an f) x) sends) late early
     where
       Goal : Type 0
       Goal = (last_begun s (f ∷ facts) ≡ Some (number_of an))
@@ -119,8 +120,8 @@ module _ (s : ℕ) (an : AssociationNumber) where
       late : last_begun s facts ≡ Some (number_of an) → Goal
       late is = inl (ap (λ (o : Option ℕ). option_or o (begun_by s f)) is)
 
-      early : (last_begun s facts ≡ None) × IsSending (touched at (turn_by s an f) x) → Goal
-      early none = by_sum (step at f x none.1) here before
+      early : (last_begun s facts ≡ None) × IsSending (touched at.ticks (turn_by s an f) x) → Goal
+      early none = by_sum (step at.ticks f x none.1) here before
         where
           here : begun_by s f ≡ Some (number_of an) → Goal
           here is = inl (ap (λ (o : Option ℕ). option_or o (begun_by s f)) none.0 ∙ is)
@@ -137,11 +138,11 @@ module _ (s : ℕ) (an : AssociationNumber) where
   more f facts (x ∷ xs) all =
       (λ sends. ap (λ (o : Option ℕ). option_or o (begun_by s f)) (all.0 sends), more f facts xs all.1)
 
-  abbrev Whole : ℕ → Fact → List Fact → List Span → Type 0
+  abbrev Whole : Clock → Fact → List Fact → List Span → Type 0
   Whole at f facts o = Every (Sends (f ∷ facts))
       (map (lived s an (clock_after at f) facts) o ++ spans_from s an (clock_after at f) facts)
 
-  first-sends : (at : ℕ) (f : Fact) (facts : List Fact) (y : Span) → y.began ≡ None
+  first-sends : (at : Clock) (f : Fact) (facts : List Fact) (y : Span) → y.began ≡ None
       → Sends (f ∷ facts) (lived s an (clock_after at f) facts y)
   first-sends at f facts y none sends = by_sum (sending (clock_after at f) facts y sends) late early
     where
@@ -151,19 +152,19 @@ module _ (s : ℕ) (an : AssociationNumber) where
       early : (last_begun s facts ≡ None) × IsSending y → last_begun s (f ∷ facts) ≡ Some (number_of an)
       early both = absurd (cc (subst (λ (o : Option ℕ). IsTrue (is_some o)) none both.1.began))
 
-  with-first : (at : ℕ) (f : Fact) (facts : List Fact)
+  with-first : (at : Clock) (f : Fact) (facts : List Fact)
       → Every (Sends (f ∷ facts)) (spans_from s an (clock_after at f) facts)
-      → Whole at f facts (opened s an at f)
-  with-first at f facts tail = by_sum (opens s an at f) go-none go-one
+      → Whole at f facts (opened s an at.ticks f)
+  with-first at f facts tail = by_sum (opens s an at.ticks f) go-none go-one
     where
-      go-none : opened s an at f ≡ [] → Whole at f facts (opened s an at f)
+      go-none : opened s an at.ticks f ≡ [] → Whole at f facts (opened s an at.ticks f)
       go-none none = subst (Whole at f facts) (sym none) tail
 
-      go-one : (y : Span) × (opened s an at f ≡ y ∷ []) × (turn_by s an f ≡ Some (Ends whys.Replaced))
-          × (y.installed ≡ at) × (y.began ≡ None) × (y.ended ≡ None) → Whole at f facts (opened s an at f)
+      go-one : (y : Span) × (opened s an at.ticks f ≡ y ∷ []) × (turn_by s an f ≡ Some (Ends whys.Replaced))
+          × (y.installed ≡ at.ticks) × (y.began ≡ None) × (y.ended ≡ None) → Whole at f facts (opened s an at.ticks f)
       go-one one = subst (Whole at f facts) (sym one.1) (first-sends at f facts one.0 one.4, tail)
 
-  all-sending : (at : ℕ) (facts : List Fact) → Every (Sends facts) (spans_from s an at facts)
+  all-sending : (at : Clock) (facts : List Fact) → Every (Sends facts) (spans_from s an at facts)
   all-sending at [] = tt
   all-sending at (f ∷ facts) =
       with-first at f facts
@@ -172,7 +173,7 @@ module _ (s : ℕ) (an : AssociationNumber) where
   pub last-sends : (facts : List Fact) (before behind : List Span) (x : Span)
       → spans s an facts ≡ before ++ x ∷ behind → IsSending x → last_begun s facts ≡ Some (number_of an)
   last-sends facts before behind x is =
-      every-at (Sends facts) before behind x (subst (Every (Sends facts)) is (all-sending 0 facts))
+      every-at (Sends facts) before behind x (subst (Every (Sends facts)) is (all-sending start facts))
 
 pub one-number : (s : ℕ) (one other : AssociationNumber) (facts : List Fact)
     (before behind front back : List Span) (a b : Span) → spans s one facts ≡ before ++ a ∷ behind

@@ -5,18 +5,19 @@ use Rattle.std.proofs.lemmas.List.Elements.{All-nil, All-cons, All-append}
 use Rattle.lan_base.specs.declared.association_number.AssociationNumber.{AssociationNumber}
 use Rattle.lan_core.specs.declared.fact.Fact.{Fact}
 use Rattle.tick_columns.specs.Columns.{IsThinned}
+use Rattle.key_spans.specs.declared.clock.Clock.{Clock}
 use Rattle.key_spans.specs.declared.span.Span.{Span}
 use Rattle.key_spans.specs.declared.span.End.{End}
 use Rattle.key_spans.specs.declared.span.Turn.TheVariants.{Ends}
 use Rattle.key_spans.specs.declared.span.Why.TheVariants.{Replaced}
-use Rattle.key_spans.specs.Spans.{clock, clock_after, lived, opened, spans, spans_from, touched, turn_by}
+use Rattle.key_spans.specs.Spans.{clock, clock_after, lived, opened, spans, spans_from, start, touched, turn_by}
 use Rattle.key_spans.specs.Standing.{Kept, StandsFor, installed_at, row_at}
 use Rattle.key_spans.specs.Times.{EndsBy}
 use Rattle.key_spans.specs.inside.Taking.{AllEnded, AreBy, IsKept, IsTaken}
 use Rattle.key_spans.proofs.OneMore.{by_sum, clock-more, opens, spans-more}
 use Rattle.key_spans.proofs.Apart.{AreApart, all-apart, every-at, installed-lived, most, rises}
 
-clock-rises : (at : ℕ) (facts : List Fact) → at ≤ most → at ≤ clock at facts
+clock-rises : (at : Clock) (facts : List Fact) → at.ticks ≤ most → at.ticks ≤ (clock at facts).ticks
 clock-rises at [] few = omega arith
 clock-rises at (f ∷ facts) few =
     let now = rises at f few in
@@ -35,52 +36,52 @@ module _ (s : ℕ) (an : AssociationNumber) where
   abbrev Under : ℕ → Span → Type 0
   Under at x = x.installed ≤ at
 
-  times : (at : ℕ) (facts : List Fact) → at ≤ most
-      → All (λ x. x.installed ≤ clock at facts) (spans_from s an at facts)
-  times at [] few = All-nil (Under at)
+  times : (at : Clock) (facts : List Fact) → at.ticks ≤ most
+      → All (λ x. x.installed ≤ (clock at facts).ticks) (spans_from s an at facts)
+  times at [] few = All-nil (Under at.ticks)
   times at (f ∷ facts) few =
-      All-append (Under (clock now facts)) (map (lived s an now facts) (opened s an at f)) (spans_from s an now facts)
-      (by_sum (opens s an at f) go-none go-one) (times now facts (rises at f few).1)
+      All-append (Under (clock now facts).ticks) (map (lived s an now facts) (opened s an at.ticks f)) (spans_from s an now facts)
+      (by_sum (opens s an at.ticks f) go-none go-one) (times now facts (rises at f few).1)
     where
-      now : ℕ
+      now : Clock
       now = clock_after at f
 
       Whole : List Span → Type 0
-      Whole o = All (Under (clock now facts)) (map (lived s an now facts) o)
+      Whole o = All (Under (clock now facts).ticks) (map (lived s an now facts) o)
 
-      go-none : opened s an at f ≡ [] → Whole (opened s an at f)
-      go-none none = subst Whole (sym none) (All-nil (Under (clock now facts)))
+      go-none : opened s an at.ticks f ≡ [] → Whole (opened s an at.ticks f)
+      go-none none = subst Whole (sym none) (All-nil (Under (clock now facts).ticks))
 
-      go-one : (y : Span) × (opened s an at f ≡ y ∷ []) × (turn_by s an f ≡ Some (Ends Replaced))
-          × (y.installed ≡ at) × (y.began ≡ None) × (y.ended ≡ None) → Whole (opened s an at f)
+      go-one : (y : Span) × (opened s an at.ticks f ≡ y ∷ []) × (turn_by s an f ≡ Some (Ends Replaced))
+          × (y.installed ≡ at.ticks) × (y.began ≡ None) × (y.ended ≡ None) → Whole (opened s an at.ticks f)
       go-one one =
-          let starts : (lived s an now facts one.0).installed ≡ at =
+          let starts : (lived s an now facts one.0).installed ≡ at.ticks =
           installed-lived s an now facts one.0 ∙ one.3 in
           let later = rises at f few in
           let first = later.0 in
           let rest = clock-rises now facts later.1 in
           subst Whole (sym one.1)
-          (All-cons (Under (clock now facts)) (lived s an now facts one.0) []
-          (subst (λ n. n ≤ clock now facts) (sym starts) (omega (arith, first, rest)))
-          (All-nil (Under (clock now facts))))
+          (All-cons (Under (clock now facts).ticks) (lived s an now facts one.0) []
+          (subst (λ n. n ≤ (clock now facts).ticks) (sym starts) (omega (arith, first, rest)))
+          (All-nil (Under (clock now facts).ticks)))
 
-  pub spans-by : (facts : List Fact) → AreBy (clock 0 facts) (spans s an facts)
+  pub spans-by : (facts : List Fact) → AreBy (clock start facts).ticks (spans s an facts)
   spans-by facts = record {
     ended = λ front last is. ended-front front last
-        (subst (λ (xs : List Span). AreApart s an xs) is (all-apart s an 0 facts (omega arith)));
-    times = times 0 facts (omega arith);
+        (subst (λ (xs : List Span). AreApart s an xs) is (all-apart s an start facts (omega arith)));
+    times = times start facts (omega arith);
   }
 
 pub one_more : (facts : List Fact) (f : Fact) (old new : Kept) → StandsFor facts old → IsTaken f old new
     → StandsFor (facts ++ f ∷ []) new
 one_more facts f old new stands taken = record {
-  clock_is = taken.clock_is ∙ ap (λ (at : ℕ). clock_after at f) stands.clock_is ∙ sym (clock-more 0 facts f);
+  clock_is = taken.clock_is ∙ ap (λ (at : Clock). clock_after at f) stands.clock_is ∙ sym (clock-more start facts f);
   rows_are = λ s an.
       subst (λ (xs : List Span). IsThinned installed_at xs (row_at new.lanes s an))
-      (ap (λ (at : ℕ). map (touched at (turn_by s an f)) (spans s an facts) ++ opened s an at f) stands.clock_is
-      ∙ sym (spans-more s an f 0 facts))
+      (ap (λ (at : Clock). map (touched at.ticks (turn_by s an f)) (spans s an facts) ++ opened s an at.ticks f) stands.clock_is
+      ∙ sym (spans-more s an f start facts))
       (taken.rows_are s an (spans s an facts)
-      (subst (λ (at : ℕ). AreBy at (spans s an facts)) (sym stands.clock_is) (spans-by s an facts))
+      (subst (λ (at : Clock). AreBy at.ticks (spans s an facts)) (sym stands.clock_is) (spans-by s an facts))
       (stands.rows_are s an));
 }
 
@@ -89,7 +90,7 @@ none_more facts old new stands kept = record {
   clock_is = kept.clock_is ∙ stands.clock_is;
   rows_are = λ s an.
       kept.rows_are s an (spans s an facts)
-      (subst (λ (at : ℕ). AreBy at (spans s an facts)) (sym stands.clock_is) (spans-by s an facts))
+      (subst (λ (at : Clock). AreBy at.ticks (spans s an facts)) (sym stands.clock_is) (spans-by s an facts))
       (stands.rows_are s an);
 }
 

@@ -13,7 +13,7 @@ use Rattle.key_spans.specs.declared.span.Span.{Span}
 use Rattle.key_spans.specs.declared.span.Turn.{Turn}
 use Rattle.key_spans.specs.declared.span.Turn.TheVariants.{Ends, Begins, Relieves}
 use Rattle.key_spans.specs.declared.span.Why.{Why}
-use Rattle.key_spans.specs.Spans.{clock, opened, spans, touched, turn_by}
+use Rattle.key_spans.specs.Spans.{clock, opened, spans, start, touched, turn_by}
 use Rattle.key_spans.specs.Times.{is_held, is_transmitting}
 use Rattle.key_spans.specs.Held.{KeyName, keys_where}
 use Rattle.key_spans.proofs.OneMore.{spans-more}
@@ -171,11 +171,11 @@ module _ (s : ℕ) (an : AssociationNumber) where
       ∙ told-more (before ++ f ∷ []) facts (told_after s an f o) one
     where
       at : ℕ
-      at = clock 0 before
+      at = (clock start before).ticks
 
       one : tells (spans s an (before ++ f ∷ [])) ≡ option_to_list (told_after s an f o)
       one =
-          ap tells (spans-more s an f 0 before)
+          ap tells (spans-more s an f start before)
           ∙ tells-append (map (touched at (turn_by s an f)) (spans s an before)) (opened s an at f)
           ∙ ap (λ (ts : List Tell). ts ++ tells (opened s an at f))
           (tells-touched at (turn_by s an f) (spans s an before)

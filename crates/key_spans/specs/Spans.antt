@@ -1,11 +1,13 @@
 -- The spans of the keys that facts tell of (this profile's own rule): each install of a station under
 -- an association number begins one, and the facts after it say what became of it.
-use Rattle.std.specs.Prelude.{ℕ, ◌+◌, ◌==◌, ◌&&◌, if◌then◌else◌, min, is_some, List, [], ◌∷◌, ◌++◌, map, Option, Some, None}
+use Rattle.std.specs.Prelude.{ℕ, ◌+◌, ◌==◌, ◌&&◌, Bool, false, if◌then◌else◌, min, is_some, List, [], ◌∷◌, ◌++◌, map, Option, Some, None}
 use Rattle.std.specs.Option.{option_or}
 use Rattle.lan_base.specs.AssociationNumbers.{same_an}
 use Rattle.lan_base.specs.declared.association_number.AssociationNumber.{AssociationNumber}
 use Rattle.lan_core.specs.declared.fact.Fact.{Fact}
 use Rattle.lan_core.specs.declared.fact.Fact.TheVariants as shows
+use Rattle.transcript_reader.specs.Time.{moves, own_after}
+use Rattle.key_spans.specs.declared.clock.Clock.{Clock}
 use Rattle.key_spans.specs.declared.span.Span.{Span}
 use Rattle.key_spans.specs.declared.span.Turn.{Turn}
 use Rattle.key_spans.specs.declared.span.Turn.TheVariants.{Ends, Begins, Relieves}
@@ -13,13 +15,20 @@ use Rattle.key_spans.specs.declared.span.Why.TheVariants.{Replaced, Retired, Dro
 
 -- ---- time
 
--- the clock of the first station after a fact more, in ticks, as far as 32 bits count
-abbrev pub clock_after : ℕ → Fact → ℕ
-clock_after at (shows.Ticked s now next) = if s == 0 then min (at + 1) 4294967295 else at
-clock_after at _ = at
+-- no time went by
+abbrev pub start : Clock
+start = record { ticks = 0; own = false }
+
+-- so many ticks, and one more where time moves on, as far as 32 bits count
+abbrev pub ticks_after : ℕ → Bool → ℕ
+ticks_after ticks moves = if moves then min (ticks + 1) 4294967295 else ticks
+
+-- the clock after a fact more
+abbrev pub clock_after : Clock → Fact → Clock
+clock_after at fact = record { ticks = ticks_after at.ticks (moves at.own fact); own = own_after at.own fact }
 
 -- the clock after facts, the first one first
-abbrev pub clock : ℕ → List Fact → ℕ
+abbrev pub clock : Clock → List Fact → Clock
 clock at [] = at
 clock at (fact ∷ later) = clock (clock_after at fact) later
 
@@ -69,17 +78,17 @@ opened s an at (shows.Installed t id a epoch sak) =
 opened s an at _ = []
 
 -- what the facts after its install make of a key
-abbrev pub lived : ℕ → AssociationNumber → ℕ → List Fact → Span → Span
+abbrev pub lived : ℕ → AssociationNumber → Clock → List Fact → Span → Span
 lived s an at [] span = span
 lived s an at (fact ∷ later) span =
-    lived s an (clock_after at fact) later (touched at (turn_by s an fact) span)
+    lived s an (clock_after at fact) later (touched at.ticks (turn_by s an fact) span)
 
 -- the keys of station s under a number, the earliest first, where the clock began so
-abbrev pub spans_from : ℕ → AssociationNumber → ℕ → List Fact → List Span
+abbrev pub spans_from : ℕ → AssociationNumber → Clock → List Fact → List Span
 spans_from s an at [] = []
 spans_from s an at (fact ∷ later) =
-    map (lived s an (clock_after at fact) later) (opened s an at fact)
+    map (lived s an (clock_after at fact) later) (opened s an at.ticks fact)
     ++ spans_from s an (clock_after at fact) later
 
 abbrev pub spans : ℕ → AssociationNumber → List Fact → List Span
-spans s an facts = spans_from s an 0 facts
+spans s an facts = spans_from s an start facts

@@ -4,8 +4,9 @@ use Rattle.lan_base.specs.declared.association_number.AssociationNumber.{Associa
 use Rattle.lan_base.specs.declared.association_number.AssociationNumber.TheVariants.{An0, An1, An2, An3}
 use Rattle.lan_core.specs.declared.fact.Fact.{Fact}
 use Rattle.tick_columns.specs.Columns.{IsThinned, Kept as Columns, no_columns}
+use Rattle.key_spans.specs.declared.clock.Clock.{Clock}
 use Rattle.key_spans.specs.declared.span.Span.{Span}
-use Rattle.key_spans.specs.Spans.{clock, spans}
+use Rattle.key_spans.specs.Spans.{clock, spans, start}
 
 -- spans lie in the columns of their installs
 abbrev pub installed_at : Span → ℕ
@@ -32,9 +33,9 @@ row_in rows An1 = rows.an1
 row_in rows An2 = rows.an2
 row_in rows An3 = rows.an3
 
--- those of all stations by place, and the clock of the first one
+-- those of all stations by place, and the clock
 pub record Kept : Type 0 where
-  pub clock : ℕ
+  pub clock : Clock
   pub lanes : List Rows
 
 abbrev pub row_of : Option Rows → AssociationNumber → Columns Span
@@ -46,6 +47,6 @@ row_at lanes s an = row_of (slice_get lanes s) an
 
 -- the clock is that of the facts, and each row has their spans in few columns
 pub record StandsFor (facts : List Fact) (kept : Kept) : Type 0 where
-  pub clock_is : kept.clock ≡ clock 0 facts
+  pub clock_is : kept.clock ≡ clock start facts
   pub rows_are : (s : ℕ) (an : AssociationNumber)
       → IsThinned installed_at (spans s an facts) (row_at kept.lanes s an)

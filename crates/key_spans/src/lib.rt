@@ -2,6 +2,7 @@
 //! from the install of a key to its end, in few columns of ticks.
 #![tactic(auto)]
 
+mod clock;
 mod lane;
 mod laws;
 mod row;

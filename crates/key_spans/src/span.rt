@@ -23,14 +23,14 @@ pub enum Why {
     Restarted,
 }
 
-/// When a key was held no more, in ticks of the first station, and why.
+/// When a key was held no more, in ticks, and why.
 #[derive(Clone, Copy)]
 pub struct End {
     pub at: u32,
     pub why: Why,
 }
 
-/// A key that a station holds under an association number. Times are ticks of the first station.
+/// A key that a station holds under an association number. Times are ticks.
 #[derive(Clone, Copy)]
 pub struct Span {
     /// The place of the station.

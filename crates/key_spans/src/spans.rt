@@ -4,11 +4,12 @@ ghost use Rattle.std.specs.Prelude.{◌≡◌, ◌++◌, ◌∷◌, ◌<◌, [],
 ghost use Rattle.std.specs.Option.{option_copied};
 ghost use Rattle.lan_core.specs.declared.fact.Fact.{Fact};
 ghost use Rattle.lan_core.specs.Run.{place};
-ghost use Rattle.key_spans.specs.Spans.{clock, clock_after, spans};
+ghost use Rattle.key_spans.specs.Spans.{clock, clock_after, spans, start};
 ghost use Rattle.tick_columns.specs.Columns.{IsThinned};
 ghost use Rattle.key_spans.specs.Standing.{StandsFor, installed_at, shown};
 ghost use Rattle.key_spans.specs.inside.Taking.{IsKept, IsPlaced, IsReached, IsTaken, TakesAt};
 
+use crate::clock::Clock;
 use crate::lane::Lane;
 use crate::span::Span;
 use lan_base::AssociationNumber;
@@ -22,7 +23,7 @@ use tick_columns::Thinned;
 #[derive(Drop)]
 pub struct Spans {
     alloc: Global,
-    clock: u32,
+    clock: Clock,
     lanes: Vec<Lane>,
 }
 
@@ -41,7 +42,7 @@ impl Spans {
     {
         Spans {
             alloc,
-            clock: 0,
+            clock: Clock::start(),
             lanes: Vec::new(alloc),
         }
     }
@@ -56,11 +57,11 @@ impl Spans {
         self.take_in(fact)
     }
 
-    /// The clock of the first station, in ticks.
+    /// The time, in ticks.
     pub fn clock(&self) -> u32
-        ensures { (facts : List Fact) → StandsFor facts self.now → result ≡ clock 0 facts }
+        ensures { (facts : List Fact) → StandsFor facts self.now → result ≡ (clock start facts).ticks }
     {
-        self.clock
+        self.clock.ticks
     }
 
     /// The keys that a station held under a number, in few columns, if it has rows.
@@ -93,14 +94,12 @@ impl Spans {
         }
     }
 
-    /// The clock goes on with a tick of the first station.
+    /// The clock goes on where a fact moves time on.
     fn tick(&mut self, fact: &Fact)
         ensures clock { self.new.clock ≡ clock_after self.old.clock fact.now }
         ensures lanes { self.new.lanes ≡ self.old.lanes }
     {
-        if let Fact::Ticked { station: 0, .. } = fact {
-            self.clock = self.clock.saturating_add(1);
-        }
+        self.clock = self.clock.after(fact);
     }
 
     /// A fact is taken at its station, if that has rows.
@@ -110,7 +109,7 @@ impl Spans {
         let Some(lane) = self.lanes.get_mut(fact.place() as usize) else {
             return Ok(());
         };
-        lane.take(self.clock, fact)
+        lane.take(self.clock.ticks, fact)
     }
 
     /// The station of a place has rows from now on, and so have those before it.

@@ -10,7 +10,8 @@ use Rattle.transcript_capture.specs.declared.clock.Clock.{Clock}
 use Rattle.transcript_capture.specs.declared.fault.RecordError.{RecordError}
 use Rattle.transcript_capture.specs.declared.fault.RecordError.TheVariants.{TooLong, Failed, Memory}
 use Rattle.transcript_capture.specs.Lines.{by_length}
-use Rattle.transcript_capture.specs.Packets.{packet_of, packets, ticks}
+use Rattle.transcript_reader.specs.Time.{ticks}
+use Rattle.transcript_capture.specs.Packets.{packet_of, packets}
 use Rattle.transcript_capture.specs.Recording.{IsClockAfter, Records, WrotePart, recorded}
 use Rattle.transcript_capture.specs.inside.Holding.{after-after, part-behind}
 use Rattle.transcript_capture.specs.inside.Parts.{packets-append, records-append}

@@ -1,24 +1,12 @@
 -- The packets of the facts of a transcript (this profile's own rule): each frame that was put on the
--- air is one, seen when the clock of the first station stands so. It ticks ten times a second.
-use Rattle.std.specs.Prelude.{⊤, ℕ, ◌*◌, ◌/◌, ◌%◌, ◌==◌, ◌≤◌, Bool, false, List, [], ◌∷◌, ◌++◌, length}
-use Rattle.std.specs.List.{count_by, flat_map}
+-- air is one, seen when the time stands so. It moves on ten times a second.
+use Rattle.std.specs.Prelude.{⊤, ℕ, ◌*◌, ◌/◌, ◌%◌, ◌≤◌, List, [], ◌∷◌, ◌++◌, length}
+use Rattle.std.specs.List.{flat_map}
 use Rattle.lan_core.specs.declared.fact.Fact.{Fact}
-use Rattle.lan_core.specs.declared.fact.Fact.TheVariants.{Framed, Ticked}
+use Rattle.lan_core.specs.declared.fact.Fact.TheVariants.{Framed}
 use Rattle.capture_file.specs.Pcap.{most_written}
 use Rattle.capture_file.specs.Records.{Packet}
-
--- ---- time
-
--- whether a fact is a tick of the first station
-abbrev pub is_tick : Fact → Bool
-is_tick (Ticked s at next) = s == 0
-is_tick _ = false
-
--- how many ticks of the first station there were
-abbrev pub ticks : List Fact → ℕ
-ticks facts = count_by is_tick facts
-
--- ---- packets
+use Rattle.transcript_reader.specs.Time.{ticks}
 
 -- the frame that a fact puts on the air, if it does
 abbrev pub frame_of : Fact → List (List ℕ)

@@ -6,7 +6,8 @@ use Rattle.capture_file.specs.Records.{records_of}
 use Rattle.transcript_capture.specs.declared.clock.Clock.{Clock}
 use Rattle.transcript_capture.specs.declared.fault.RecordError.{RecordError}
 use Rattle.transcript_capture.specs.declared.fault.RecordError.TheVariants.{TooLong, Failed, Memory}
-use Rattle.transcript_capture.specs.Packets.{Fits, packet_of, ticks}
+use Rattle.transcript_reader.specs.Time.{ticked, ticks}
+use Rattle.transcript_capture.specs.Packets.{Fits, packet_of}
 
 -- a clock after so many ticks; seconds are counted as far as a record's field holds them, and then
 -- from 0 again
@@ -14,9 +15,10 @@ pub record IsClockAt (n : ℕ) (clock : Clock) : Type 0 where
   pub seconds : clock.seconds ≡ n / 10 % 2 ^ 32
   pub tenths : clock.tenths ≡ n % 10
 
--- the clock of the first station after facts
-abbrev pub IsClockAfter : List Fact → Clock → Type 0
-IsClockAfter facts clock = IsClockAt (ticks facts) clock
+-- a clock after facts
+pub record IsClockAfter (facts : List Fact) (clock : Clock) : Type 0 where
+  pub at : IsClockAt (ticks facts) clock
+  pub own_is : clock.own ≡ ticked facts
 
 -- the record of the packet of a fact that comes after others, if it has one
 abbrev pub recorded : List Fact → Fact → List ℕ

@@ -5,12 +5,14 @@ ghost use Rattle.lan_core.specs.declared.fact.Fact.{Fact};
 ghost use Rattle.lan_core.specs.declared.fact.Fact.TheVariants.{Framed};
 ghost use Rattle.capture_file.specs.Pcap.{most_written};
 ghost use Rattle.capture_file.specs.Records.{IsFileOf, file_of};
-ghost use Rattle.transcript_capture.specs.Packets.{frames, packet_at, packets, packets_after, ticks};
+ghost use Rattle.transcript_reader.specs.Time.{ticks};
+ghost use Rattle.transcript_capture.specs.Packets.{frames, packet_at, packets, packets_after};
 
 use capture_file::law_capture;
 
 /// Where no frame is too long, the file of a transcript's packets has the frames that were put on the
-/// air, each whole and in order. The time of each is that of the first station's ticks before it.
+/// air, each whole and in order. The time of each is how often
+/// the facts before it moved time on.
 pub fn law_frames_are_packets()
     ensures whole { (facts : List Fact)
         → All (λ octets. length octets ≤ most_written) (frames facts)

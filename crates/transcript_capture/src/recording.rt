@@ -16,8 +16,7 @@ use lan_core::Fact;
 use std::alloc::Global;
 use std::marker::Model;
 
-/// Records the frames of facts, which come one after the other. Contracts see the clock of the first
-/// station.
+/// Records the frames of facts, which come one after the other. Contracts see the clock.
 #[derive(Drop)]
 pub struct Recording {
     clock: Clock,
@@ -44,8 +43,7 @@ impl Recording {
         }
     }
 
-    /// Takes the next fact: the record of its frame, if it has one, is written with the time of the
-    /// first station.
+    /// Takes the next fact: the record of its frame, if it has one, is written with the time.
     pub fn take<K: Sink>(&mut self, fact: &Fact, sink: &mut K) -> Result<(), RecordError>
         ensures records { (earlier : List Fact) → IsClockAfter earlier self.old
             → Records earlier fact.now self.old self.new (K.held sink.old) (K.held sink.new) result }
@@ -55,10 +53,6 @@ impl Recording {
     {
         match fact {
             Fact::Framed { octets, .. } => self.write(octets.as_slice(), sink),
-            Fact::Ticked { station: 0, .. } => {
-                self.clock.tick();
-                Ok(())
-            }
             Fact::Ticked { .. }
             | Fact::Life { .. }
             | Fact::Server { .. }
@@ -70,7 +64,10 @@ impl Recording {
             | Fact::HeardMka { .. }
             | Fact::Claimed { .. }
             | Fact::Unclaimed { .. }
-            | Fact::Arrived { .. } => Ok(()),
+            | Fact::Arrived { .. } => {
+                self.clock.hear(fact);
+                Ok(())
+            }
         }
     }
 

@@ -1,9 +1,10 @@
 -- Worked examples: the form of a line, its group and text, and the places of stations.
-use Rattle.std.proofs.Common.{◌≡◌, [], refl}
+use Rattle.std.proofs.Common.{◌≡◌, [], ◌∷◌, refl}
 use Rattle.std.specs.Prelude.{Some, None, codes}
 use Rattle.lan_core.specs.declared.fact.Fact.TheVariants.{Ticked}
 use Rattle.transcript_reader.specs.declared.form.Form.TheVariants.{OneGroup, TwoGroups}
 use Rattle.transcript_reader.specs.declared.group.Group.TheVariants.{First, Second}
+use Rattle.transcript_reader.specs.Time.{ticks}
 use Rattle.transcript_reader.specs.Forms.{form_of, form_then, marked, parted, placed, station_of}
 
 -- a number stands alone before one space
@@ -45,3 +46,10 @@ place_in_the_second = refl
 
 one_station : station_of 17 ≡ 1
 one_station = refl
+
+-- the first station ticks in the first group, in both, and then in the second alone; another one in between
+one_group_and_both : ticks (Ticked 0 1 0 ∷ Ticked 0 2 0 ∷ Ticked 16 1 0 ∷ Ticked 1 1 0 ∷ []) ≡ 2
+one_group_and_both = refl
+
+goes_on_in_the_second : ticks (Ticked 0 1 0 ∷ Ticked 16 1 0 ∷ Ticked 16 2 0 ∷ Ticked 17 1 0 ∷ Ticked 16 3 0 ∷ []) ≡ 3
+goes_on_in_the_second = refl

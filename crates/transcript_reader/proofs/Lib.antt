@@ -5,5 +5,6 @@ mod Course
 mod OneTaken
 mod Reaching
 mod Instances
+pub mod Ticking
 mod Examples
 pub mod Public

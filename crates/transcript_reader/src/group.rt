@@ -8,7 +8,7 @@ ghost use Rattle.transcript_reader.specs.Forms.{moved, placed, station_of};
 use lan_core::Fact;
 
 /// How many places further the stations of the second group are: as many as a transcript names.
-const FURTHER: u8 = 16;
+pub const FURTHER: u8 = 16;
 
 /// One of the groups.
 #[derive(Clone, Copy, Debug, PartialEq, Eq)]

@@ -11,6 +11,7 @@ mod laws;
 mod readers;
 mod reading;
 mod take_error;
+mod time;
 mod unfinished;
 
 pub use counting::number_after;
@@ -21,4 +22,5 @@ pub use group::{Group, station_of};
 pub use laws::{law_a_line_tells_one_fact, law_one_group_tells_what_it_reads};
 pub use reading::{Reading, read_transcript};
 pub use take_error::TakeError;
+pub use time::{is_own, moves_time};
 pub use unfinished::Unfinished;

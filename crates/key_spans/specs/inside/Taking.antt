@@ -87,7 +87,7 @@ IsOnly An3 P old new = P old.an3 new.an3 × (new ≡ record old { an3 = new.an3 
 pub record IsTaken (fact : Fact) (old new : Kept) : Type 0 where
   pub clock_is : new.clock ≡ clock_after old.clock fact
   pub rows_are : (s : ℕ) (an : AssociationNumber)
-      → IsRowAfter s an old.clock fact (row_at old.lanes s an) (row_at new.lanes s an)
+      → IsRowAfter s an old.clock.ticks fact (row_at old.lanes s an) (row_at new.lanes s an)
 
 -- rows of nothing may have come
 pub record IsReached (old new : Kept) : Type 0 where
@@ -102,12 +102,12 @@ IsPlaced fact kept = slice_get kept.lanes (place fact) ≡ None → installs 0 f
 pub record IsKept (old new : Kept) : Type 0 where
   pub clock_is : new.clock ≡ old.clock
   pub rows_are : (s : ℕ) (an : AssociationNumber)
-      → IsKeptRow old.clock (row_at old.lanes s an) (row_at new.lanes s an)
+      → IsKeptRow old.clock.ticks (row_at old.lanes s an) (row_at new.lanes s an)
 
 -- the rows of the station that shows a fact became those after it, and the others are as they were
 pub record IsTakenAt (fact : Fact) (old new : Kept) (rows : Rows) : Type 0 where
   pub then : Rows
-  pub lane : IsLaneAfter (place fact) old.clock fact rows then
+  pub lane : IsLaneAfter (place fact) old.clock.ticks fact rows then
   pub clock_is : new.clock ≡ old.clock
   pub here : slice_get new.lanes (place fact) ≡ Some then
   pub others : (t : ℕ) → t ≢ place fact → slice_get new.lanes t ≡ slice_get old.lanes t

@@ -4,7 +4,8 @@ use Rattle.std.proofs.lemmas.List.{append-nil}
 use Rattle.lan_core.specs.declared.fact.Fact.{Fact}
 use Rattle.capture_file.specs.Pcap.{record_octets}
 use Rattle.capture_file.specs.Records.{Packet, records_of}
-use Rattle.transcript_capture.specs.Packets.{packet_of, packets_after, ticks}
+use Rattle.transcript_reader.specs.Time.{ticks}
+use Rattle.transcript_capture.specs.Packets.{packet_of, packets_after}
 
 pub packets-append : (earlier facts more : List Fact)
     → packets_after earlier (facts ++ more) ≡ packets_after earlier facts ++ packets_after (earlier ++ facts) more
