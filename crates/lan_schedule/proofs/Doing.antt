@@ -16,7 +16,7 @@ use Rattle.lan_schedule.specs.declared.stage.Stage.{Stage}
 use Rattle.lan_schedule.specs.Races.{Chance}
 use Rattle.lan_schedule.specs.World.{World, Kept, is_racing, settings}
 use Rattle.lan_schedule.specs.Acts.{Act, nothing, change, seq, look}
-use Rattle.lan_schedule.specs.Acts.{perform, IsOnWay, Course, Goes, and_then, each, span}
+use Rattle.lan_schedule.specs.Acts.{perform, BeginsAt, Course, Goes, and_then, each, span}
 use Rattle.lan_schedule.specs.Reports.{Report, reports, AreTold}
 use Rattle.lan_schedule.specs.Ends.{Moment, moment, WasTold, WasToldTo, WasBroken, Ends}
 use Rattle.lan_schedule.specs.inside.Comes.{Comes, IsGoing}
@@ -25,7 +25,7 @@ use Rattle.lan_schedule.specs.Stages.{StandsFor, Counts}
 use Rattle.lan_schedule.specs.inside.Recording.{Mark, StandsSince, LeavesAt, HasRecorded, IsRecorded}
 use Rattle.lan_schedule.specs.inside.Recording.{KeepSeats, steps_of}
 use Rattle.lan_schedule.specs.inside.Staged.{Did, Changed}
-use Rattle.lan_schedule.proofs.OnWay.{IsAs, as-left, way-start}
+use Rattle.lan_schedule.proofs.OnWay.{IsAs, as-left, begins-start, way-start}
 use Rattle.lan_schedule.proofs.Recorded.{seats-kept, seats-then}
 
 -- the chances of two calls, one after the other
@@ -83,31 +83,31 @@ module _ {K : Type 0} {Took : K → Report → K → Type 0} where
 
 module _ {K : Type 0} {Took : K → Report → K → Type 0} where
   -- nothing more was told
-  pub told-here : (w : World) (IsOn : World → Type 0) (a b : K) → IsTidy w → IsOn w → b ≡ a
-      → WasToldTo Took w w IsOn a b
-  told-here w IsOn a b tidy on same = record {
+  pub told-here : (w : World) (act : Act) (a b : K) → IsTidy w → b ≡ a → WasToldTo Took w w act a b
+  told-here w act a b tidy same = record {
     world = w;
     tidy = tidy;
     same = refl;
-    on_way = on;
+    begins = begins-start act w;
     told = told-none w w a b refl same;
     untold = [];
     since = sym (append-nil (reports w.run));
     few = omega arith;
   }
 
-  told-to-then : (w v u : World) (IsOn IsThere : World → Type 0) (a b c : K) → WasTold Took w v a b
-      → is_racing v.kept.phase ≡ is_racing w.kept.phase → ((x : World) → IsOn x → IsThere x)
-      → WasToldTo Took v u IsOn b c → WasToldTo Took w u IsThere a c
-  told-to-then w v u IsOn IsThere a b c f same there g = record {
-    world = g.world;
-    tidy = g.tidy;
-    same = g.same ∙ same;
-    on_way = there g.world g.on_way;
-    told = told-then w v g.world a b c f g.told;
-    untold = g.untold;
-    since = g.since;
-    few = g.few;
+  told-to-then : (w v u : World) (f g : Act) (a b c : K) → WasTold Took w v a b
+      → is_racing v.kept.phase ≡ is_racing w.kept.phase
+      → ((x : World) → BeginsAt g v x → BeginsAt f w x)
+      → WasToldTo Took v u g b c → WasToldTo Took w u f a c
+  told-to-then w v u f g a b c told same there to = record {
+    world = to.world;
+    tidy = to.tidy;
+    same = to.same ∙ same;
+    begins = there to.world to.begins;
+    told = told-then w v to.world a b c told to.told;
+    untold = to.untold;
+    since = to.since;
+    few = to.few;
   }
 
 module _ {K : Type 0} {Took : K → Report → K → Type 0} {Broke : K → Report → K → Unwritten → Type 0}
@@ -130,15 +130,15 @@ module _ {K : Type 0} {Took : K → Report → K → Type 0} {Broke : K → Repo
       is = g.is;
     }
 
-    cause-then : (w v u : World) (IsOn IsThere : World → Type 0) (a b c : K) (halt : Halt)
+    cause-then : (w v u : World) (f g : Act) (a b c : K) (halt : Halt)
         → WasTold Took w v a b → is_racing v.kept.phase ≡ is_racing w.kept.phase
-        → ((x : World) → IsOn x → IsThere x)
-        → ((halt ≡ halts.Memory) × WasToldTo Took v u IsOn b c) ⊎ WasBroken Took Broke v u b c halt
-        → ((halt ≡ halts.Memory) × WasToldTo Took w u IsThere a c) ⊎ WasBroken Took Broke w u a c halt
-    cause-then w v u IsOn IsThere a b c halt f same there (inl g) =
-        inl (g.0, told-to-then w v u IsOn IsThere a b c f same there g.1)
-    cause-then w v u IsOn IsThere a b c halt f same there (inr g) =
-        inr (broken-then w v u a b c halt f g)
+        → ((x : World) → BeginsAt g v x → BeginsAt f w x)
+        → ((halt ≡ halts.Memory) × WasToldTo Took v u g b c) ⊎ WasBroken Took Broke v u b c halt
+        → ((halt ≡ halts.Memory) × WasToldTo Took w u f a c) ⊎ WasBroken Took Broke w u a c halt
+    cause-then w v u f g a b c halt told same there (inl to) =
+        inl (to.0, told-to-then w v u f g a b c told same there to.1)
+    cause-then w v u f g a b c halt told same there (inr broken) =
+        inr (broken-then w v u a b c halt told broken)
 
 -- ---- how calls end
 
@@ -171,8 +171,7 @@ module _ {K : Type 0} (Took : K → Report → K → Type 0) (Broke : K → Repo
           counts = h.counts;
           same = h.same ∙ same;
           on_way = alike.1 h.world h.on_way;
-          cause = cause-then w v h.world (IsOnWay g v) (IsOnWay f w) a b new.outlet halt told same alike.1
-              h.cause;
+          cause = cause-then w v h.world f g a b new.outlet halt told same alike.2 h.cause;
         })
 
     -- the first act ended early
@@ -196,8 +195,8 @@ module _ {K : Type 0} (Took : K → Report → K → Type 0) (Broke : K → Repo
       counts = h.counts;
       same = h.same;
       on_way = inl h.on_way;
-      cause = cause-then w w h.world (IsOnWay f w) (IsOnWay (seq f g) w) a a new.outlet halt
-          (told-none w w a a refl refl) refl (λ u on. inl on) h.cause;
+      cause = cause-then w w h.world (seq f g) f a a new.outlet halt (told-none w w a a refl refl) refl
+          (λ u begins. inl begins) h.cause;
     })
 
     -- what one value did, another did in which it stands
@@ -250,7 +249,7 @@ module _ {K : Type 0} (Took : K → Report → K → Type 0) (Broke : K → Repo
       counts = counts;
       same = refl;
       on_way = way-start act w;
-      cause = inl (refl, told-here w (IsOnWay act w) a new.outlet tidy (way-start act w) same);
+      cause = inl (refl, told-here w act a new.outlet tidy same);
     })
 
 -- ---- what a group at work does

@@ -397,7 +397,7 @@ module _ {K : Type 0} (Took : K → Report → K → Type 0) (Broke : K → Repo
             world = w;
             tidy = before;
             same = refl;
-            on_way = inl refl;
+            begins = refl;
             told = told-none w w a new.outlet refl wants.1;
             untold = report_of event facts w ∷ [];
             since = refl;

@@ -3,7 +3,7 @@ use Rattle.std.proofs.Common.{◌≡◌, List, [], ◌∷◌, ◌++◌, inl, inr
 use Rattle.std.specs.Prelude.{◌⊎◌, ℕ}
 use Rattle.lan_schedule.specs.World.{World}
 use Rattle.lan_schedule.specs.Acts.{Act, nothing, refuse, exceed, happen, change, seq, look, race}
-use Rattle.lan_schedule.specs.Acts.{perform, begun_race, Course, Goes, Stops, and_then, world_of, IsOnWay}
+use Rattle.lan_schedule.specs.Acts.{perform, begun_race, BeginsAt, Course, Goes, Stops, and_then, world_of, IsOnWay}
 use Rattle.lan_schedule.specs.Answers.{answer}
 use Rattle.lan_schedule.specs.Lines.{performed, performed_all}
 use Rattle.lan_schedule.specs.Reports.{reports}
@@ -12,18 +12,21 @@ use Rattle.lan_schedule.proofs.Racing.{begins-self, begins-then, shown-begins, t
 
 -- ---- acts that come to the same
 
--- an act from a world comes to where another does from its world, by whatever that comes by
+-- an act from a world comes to where another does from its world, by whatever that comes by, and its parts
+-- begin wherever that one's do
 abbrev pub IsAs : Act → World → Act → World → Type 0
 IsAs f w g v = (perform f w ≡ perform g v) × ((u : World) → IsOnWay g v u → IsOnWay f w u)
+    × ((u : World) → BeginsAt g v u → BeginsAt f w u)
 
 pub as-self : (f : Act) (w : World) → IsAs f w f w
-as-self f w = (refl, λ u on. on)
+as-self f w = (refl, λ u on. on, λ u begins. begins)
 
 -- behind its first part an act is what is left of it
 pub as-left : (f g : Act) (w v : World) → perform f w ≡ Goes v → IsAs (seq f g) w g v
 as-left f g w v goes = (
   ap (λ (out : Course). and_then out (λ v. perform g v)) goes,
   λ u on. inr (v, goes, on),
+  λ u begins. inr (v, goes, begins),
 )
 
 -- ---- where it begins
@@ -37,6 +40,28 @@ way-start (change f) w = inl refl
 way-start (seq f g) w = inl (way-start f w)
 way-start (look f) w = way-start (f w) w
 way-start (race workers control) w = inl refl
+
+pub begins-start : (act : Act) (w : World) → BeginsAt act w w
+begins-start nothing w = refl
+begins-start (refuse kind) w = refl
+begins-start (exceed excess) w = refl
+begins-start (happen event) w = refl
+begins-start (change f) w = refl
+begins-start (seq f g) w = inl (begins-start f w)
+begins-start (look f) w = begins-start (f w) w
+begins-start (race workers control) w = refl
+
+-- where a part begins is on the way
+pub way-begun : (act : Act) (w v : World) → BeginsAt act w v → IsOnWay act w v
+way-begun nothing w v is = inl is
+way-begun (refuse kind) w v is = inl is
+way-begun (exceed excess) w v is = inl is
+way-begun (happen event) w v is = inl is
+way-begun (change f) w v is = inl is
+way-begun (seq f g) w v (inl begins) = inl (way-begun f w v begins)
+way-begun (seq f g) w v (inr begins) = inr (begins.0, begins.1, way-begun g begins.0 v begins.2)
+way-begun (look f) w v begins = way-begun (f w) w v begins
+way-begun (race workers control) w v is = inl is
 
 -- ---- lines, one after the other
 
@@ -81,9 +106,26 @@ way-append (x ∷ xs) ys w u (inr on) =
     let h = halfway (perform (performed x) w) (λ v. perform (performed_all xs) v) on.0 on.1 in
     inr (h.half, h.first, way-append xs ys h.half u (inr (on.0, h.then_, on.2)))
 
+begins-append : (xs ys : List (List ℕ)) (w u : World)
+    → BeginsAt (seq (performed_all xs) (performed_all ys)) w u → BeginsAt (performed_all (xs ++ ys)) w u
+begins-append [] ys w u (inl is) =
+    subst (λ (x : World). BeginsAt (performed_all ys) w x) (sym is) (begins-start (performed_all ys) w)
+begins-append [] ys w u (inr begins) =
+    subst (λ (x : World). BeginsAt (performed_all ys) x u) (sym (world-in w begins.0 begins.1)) begins.2
+begins-append (x ∷ xs) ys w u (inl (inl begins)) = inl begins
+begins-append (x ∷ xs) ys w u (inl (inr begins)) =
+    inr (begins.0, begins.1, begins-append xs ys begins.0 u (inl begins.2))
+begins-append (x ∷ xs) ys w u (inr begins) =
+    let h = halfway (perform (performed x) w) (λ v. perform (performed_all xs) v) begins.0 begins.1 in
+    inr (h.half, h.first, begins-append xs ys h.half u (inr (begins.0, h.then_, begins.2)))
+
 pub as-append : (xs ys : List (List ℕ)) (w : World)
     → IsAs (performed_all (xs ++ ys)) w (seq (performed_all xs) (performed_all ys)) w
-as-append xs ys w = (each-append xs ys w, λ u on. way-append xs ys w u on)
+as-append xs ys w = (
+  each-append xs ys w,
+  λ u on. way-append xs ys w u on,
+  λ u begins. begins-append xs ys w u begins,
+)
 
 -- where the first lines come to is on the way of all
 pub way-front : (xs ys : List (List ℕ)) (w v : World) → perform (performed_all xs) w ≡ Goes v

@@ -31,7 +31,7 @@ use Rattle.lan_schedule.specs.declared.stage.Stage.{Stage}
 use Rattle.lan_schedule.specs.declared.commands.Replay.{Replay}
 use Rattle.lan_schedule.specs.Races.{Phase, Apart, Chance, behind_numbers}
 use Rattle.lan_schedule.specs.World.{World, Kept, nothing_kept, is_racing}
-use Rattle.lan_schedule.specs.Acts.{Act, IsOnWay, look, perform, Stops}
+use Rattle.lan_schedule.specs.Acts.{Act, BeginsAt, IsOnWay, look, perform, Stops}
 use Rattle.lan_schedule.specs.Kinds.{wrong_word, refusal}
 use Rattle.lan_schedule.specs.Lines.{choose, deed, deed_at, act_of, unless_refused}
 use Rattle.lan_schedule.specs.Sound.{IsTidy}
@@ -220,7 +220,7 @@ station-right _ v station empty keyed = absurd station
 begun-same : (line : Line) (w : World) → IsStation line
     → let v = record w { kept = record w.kept { begun = true } } in
     IsAs (deed line w) w (deed line v) v
-begun-same (lines.Station name sci priority) w station = (refl, way) where
+begun-same (lines.Station name sci priority) w station = (refl, way, begins) where
   v : World
   v = record w { kept = record w.kept { begun = true } }
 
@@ -229,6 +229,11 @@ begun-same (lines.Station name sci priority) w station = (refl, way) where
   way u (inl (inl is)) = inl (inr is)
   way u (inl (inr is)) = inl (inr is)
   way u (inr on) = inr on
+
+  begins : (u : World) → BeginsAt (deed (lines.Station name sci priority) v) v u
+      → BeginsAt (deed (lines.Station name sci priority) w) w u
+  begins u (inl is) = inr (v, refl, is)
+  begins u (inr begun) = inr begun
 begun-same _ w station = absurd station
 
 module _ {K : Type 0} {Took : K → Report → K → Type 0} {Broke : K → Report → K → Unwritten → Type 0}

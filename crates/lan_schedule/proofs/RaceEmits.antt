@@ -313,11 +313,11 @@ module _ (w : World) (workers : List Worker) (lines : List Numbered) (now : Stag
         tidy apart (leaves-counts (mark_of w has.begun) halt x new leaves)
         (λ same. leaves-names (mark_of w has.begun) halt x new leaves ∙ same)
 
-no-memory : (w : World) (IsOn : World → Type 0) (old new : List (List Fact)) (value : Stage) (halt : Halt)
+no-memory : (w : World) (act : Act) (old new : List (List Fact)) (value : Stage) (halt : Halt)
     → (halt ≡ halts.Memory → ⊥)
-    → WasCut Counts KeepsReport KeepsNoMore w IsOn old (moment value new) halt → ⊥
-no-memory w IsOn old new value halt some cut = some (memory cut.cause) where
-  memory : ((halt ≡ halts.Memory) × WasToldTo KeepsReport w cut.world IsOn old new)
+    → WasCut Counts KeepsReport KeepsNoMore w act old (moment value new) halt → ⊥
+no-memory w act old new value halt some cut = some (memory cut.cause) where
+  memory : ((halt ≡ halts.Memory) × WasToldTo KeepsReport w cut.world act old new)
       ⊎ WasBroken KeepsReport KeepsNoMore w cut.world old new halt → halt ≡ halts.Memory
   memory (inl both) = both.0
   memory (inr broken) = broken-memory w cut.world old new halt broken

@@ -43,7 +43,7 @@ module _ {K : Type 0} {Took : K → Report → K → Type 0} {Broke : K → Repo
         subst (λ r. IsAs (seq (begin_line (line_after w.kept.line)) (act_read r)) w (begin_line number) w)
         (sym nothing_said)
         (subst (λ (n : ℕ). IsAs (seq (begin_line (line_after w.kept.line)) (act_read (Ok None))) w (begin_line n) w)
-        (sym (next w stands)) (refl, λ u on. inl on))) d
+        (sym (next w stands)) (refl, λ u on. inl on, λ u begins. inl begins))) d
 
     unfoldable pub line-does : (text : List ℕ) (number : ℕ) (line : Line) (old new : Moment Replay K)
         (r : Result (Unit {0}) Halt)

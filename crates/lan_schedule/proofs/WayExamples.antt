@@ -4,7 +4,7 @@ use Rattle.std.specs.Prelude.{Option, Some, None}
 use Rattle.trace_acts.specs.Settings.{no_choice}
 use Rattle.lan_schedule.specs.Races.{Raced}
 use Rattle.lan_schedule.specs.World.{World, beginning, nothing_kept}
-use Rattle.lan_schedule.specs.Acts.{Act, Course, IsOnWay, nothing, seq, world_of}
+use Rattle.lan_schedule.specs.Acts.{Act, BeginsAt, Course, IsOnWay, nothing, perform, race, seq, world_of}
 use Rattle.lan_schedule.specs.Lines.{at_line, begin_line}
 
 -- a line that performs nothing more
@@ -58,3 +58,16 @@ no_race_forgotten (inl (inl is)) = none [] (ap races_of is)
 no_race_forgotten (inl (inr is)) = none [] (ap races_of is)
 no_race_forgotten (inr (u, goes, inl is)) = none [] (ap races_of is ∙ ap races_in (sym goes))
 no_race_forgotten (inr (u, goes, inr is)) = none [] (ap races_of is ∙ ap races_in (sym goes))
+
+-- a race that is over is on its way, but none of it was told where memory was wanting
+abbrev of_nobody : Act
+of_nobody = race [] nothing
+
+abbrev over : World
+over = world_of (perform of_nobody (beginning []))
+
+whole_race : IsOnWay of_nobody (beginning []) over
+whole_race = inr refl
+
+no_race_told : BeginsAt of_nobody (beginning []) over → ⊥
+no_race_told is = none [] (sym (ap races_of is))

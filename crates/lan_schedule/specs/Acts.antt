@@ -162,6 +162,13 @@ IsOnWay (seq first then_) w =
 IsOnWay (look act) w = IsOnWay (act w) w
 IsOnWay act w = λ v. (v ≡ w) ⊎ (v ≡ world_of (perform act w))
 
+-- A part of an act begins in a world, where the act does in another. An event and a race have no parts.
+abbrev pub BeginsAt : Act → World → World → Type 0
+BeginsAt (seq first then_) w =
+    λ v. BeginsAt first w v ⊎ ((u : World) × (perform first w ≡ Goes u) × BeginsAt then_ u v)
+BeginsAt (look act) w = BeginsAt (act w) w
+BeginsAt act w = λ v. v ≡ w
+
 -- ---- many acts
 
 -- one for each item

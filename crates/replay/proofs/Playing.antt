@@ -21,7 +21,7 @@ use Rattle.lan_schedule.specs.Reports.{Report, reports}
 use Rattle.lan_schedule.specs.Ends.{IsReached, WasTold, WasBroken as RecorderBroke}
 use Rattle.lan_schedule.specs.Sound.{IsTidy}
 use Rattle.lan_schedule.specs.Standing.{StandsFor, Closes}
-use Rattle.lan_schedule.proofs.Public.{way-front, does-whole, does-whole-early}
+use Rattle.lan_schedule.proofs.Public.{way-begun, way-front, does-whole, does-whole-early}
 use Rattle.replay.specs.declared.cause.Cause.TheVariants as causes
 use Rattle.replay.specs.Sinks.{Sunk, Wrote, BrokeOff, WroteSome, Fails}
 use Rattle.replay.specs.Shown.{summary_of}
@@ -111,7 +111,7 @@ module _ {P K : Type 0} (given : Given) (Took : K → Report → K → Type 0)
         | inr cut ↦ elim cut.cause [
           | inl m ↦ (
             m.1.world,
-            (c, m.1.on_way),
+            (c, way-begun act (beginning c) m.1.world m.1.begins),
             record { tidy = m.1.tidy; apart = m.1.same },
             inl (was-told c m.1.world _ _ m.1.told),
           )
