@@ -83,7 +83,7 @@ module _ {K : Type 0} {Took : K → Report → K → Type 0} where
 
 module _ {K : Type 0} {Took : K → Report → K → Type 0} where
   -- nothing more was told
-  pub told-here : (w : World) (act : Act) (a b : K) → IsTidy w → b ≡ a → WasToldTo Took w w act a b
+  pub told-here : (w : World) (act : Act) (a b : K) → IsTidy w → b ≡ a → WasToldTo Took w w (BeginsAt act w) a b
   told-here w act a b tidy same = record {
     world = w;
     tidy = tidy;
@@ -95,11 +95,11 @@ module _ {K : Type 0} {Took : K → Report → K → Type 0} where
     few = omega arith;
   }
 
-  told-to-then : (w v u : World) (f g : Act) (a b c : K) → WasTold Took w v a b
+  told-to-then : (w v u : World) (IsBegin IsStart : World → Type 0) (a b c : K) → WasTold Took w v a b
       → is_racing v.kept.phase ≡ is_racing w.kept.phase
-      → ((x : World) → BeginsAt g v x → BeginsAt f w x)
-      → WasToldTo Took v u g b c → WasToldTo Took w u f a c
-  told-to-then w v u f g a b c told same there to = record {
+      → ((x : World) → IsBegin x → IsStart x)
+      → WasToldTo Took v u IsBegin b c → WasToldTo Took w u IsStart a c
+  told-to-then w v u IsBegin IsStart a b c told same there to = record {
     world = to.world;
     tidy = to.tidy;
     same = to.same ∙ same;
@@ -130,14 +130,14 @@ module _ {K : Type 0} {Took : K → Report → K → Type 0} {Broke : K → Repo
       is = g.is;
     }
 
-    cause-then : (w v u : World) (f g : Act) (a b c : K) (halt : Halt)
+    cause-then : (w v u : World) (IsBegin IsStart : World → Type 0) (a b c : K) (halt : Halt)
         → WasTold Took w v a b → is_racing v.kept.phase ≡ is_racing w.kept.phase
-        → ((x : World) → BeginsAt g v x → BeginsAt f w x)
-        → ((halt ≡ halts.Memory) × WasToldTo Took v u g b c) ⊎ WasBroken Took Broke v u b c halt
-        → ((halt ≡ halts.Memory) × WasToldTo Took w u f a c) ⊎ WasBroken Took Broke w u a c halt
-    cause-then w v u f g a b c halt told same there (inl to) =
-        inl (to.0, told-to-then w v u f g a b c told same there to.1)
-    cause-then w v u f g a b c halt told same there (inr broken) =
+        → ((x : World) → IsBegin x → IsStart x)
+        → ((halt ≡ halts.Memory) × WasToldTo Took v u IsBegin b c) ⊎ WasBroken Took Broke v u b c halt
+        → ((halt ≡ halts.Memory) × WasToldTo Took w u IsStart a c) ⊎ WasBroken Took Broke w u a c halt
+    cause-then w v u IsBegin IsStart a b c halt told same there (inl to) =
+        inl (to.0, told-to-then w v u IsBegin IsStart a b c told same there to.1)
+    cause-then w v u IsBegin IsStart a b c halt told same there (inr broken) =
         inr (broken-then w v u a b c halt told broken)
 
 -- ---- how calls end
@@ -171,7 +171,7 @@ module _ {K : Type 0} (Took : K → Report → K → Type 0) (Broke : K → Repo
           counts = h.counts;
           same = h.same ∙ same;
           on_way = alike.1 h.world h.on_way;
-          cause = cause-then w v h.world f g a b new.outlet halt told same alike.2 h.cause;
+          cause = cause-then w v h.world (BeginsAt g v) (BeginsAt f w) a b new.outlet halt told same alike.2 h.cause;
         })
 
     -- the first act ended early
@@ -195,7 +195,7 @@ module _ {K : Type 0} (Took : K → Report → K → Type 0) (Broke : K → Repo
       counts = h.counts;
       same = h.same;
       on_way = inl h.on_way;
-      cause = cause-then w w h.world (seq f g) f a a new.outlet halt (told-none w w a a refl refl) refl
+      cause = cause-then w w h.world (BeginsAt f w) (BeginsAt (seq f g) w) a a new.outlet halt (told-none w w a a refl refl) refl
           (λ u begins. inl begins) h.cause;
     })
 

@@ -313,11 +313,11 @@ module _ (w : World) (workers : List Worker) (lines : List Numbered) (now : Stag
         tidy apart (leaves-counts (mark_of w has.begun) halt x new leaves)
         (λ same. leaves-names (mark_of w has.begun) halt x new leaves ∙ same)
 
-no-memory : (w : World) (act : Act) (old new : List (List Fact)) (value : Stage) (halt : Halt)
+no-memory : (w : World) (IsOn IsBegin : World → Type 0) (old new : List (List Fact)) (value : Stage) (halt : Halt)
     → (halt ≡ halts.Memory → ⊥)
-    → WasCut Counts KeepsReport KeepsNoMore w act old (moment value new) halt → ⊥
-no-memory w act old new value halt some cut = some (memory cut.cause) where
-  memory : ((halt ≡ halts.Memory) × WasToldTo KeepsReport w cut.world act old new)
+    → WasCut Counts KeepsReport KeepsNoMore w IsOn IsBegin old (moment value new) halt → ⊥
+no-memory w IsOn IsBegin old new value halt some cut = some (memory cut.cause) where
+  memory : ((halt ≡ halts.Memory) × WasToldTo KeepsReport w cut.world IsBegin old new)
       ⊎ WasBroken KeepsReport KeepsNoMore w cut.world old new halt → halt ≡ halts.Memory
   memory (inl both) = both.0
   memory (inr broken) = broken-memory w cut.world old new halt broken
@@ -349,7 +349,7 @@ module _ (mark : Mark) (w u : World) (later : List Chance) (emit : Act) (new : S
     h.left,
   )
   all-lines out (Err halt) some (inr h) is = absurd
-      (no-memory u _ first shown new halt (λ m. some (ap (λ (e : Halt). Err e) m)) h)
+      (no-memory u _ _ first shown new halt (λ m. some (ap (λ (e : Halt). Err e) m)) h)
 
   -- where one of them was refused
   some-lines : (out : Course) (halt : Halt) (c : Result (Unit {0}) Halt)
@@ -370,7 +370,7 @@ module _ (mark : Mark) (w u : World) (later : List Chance) (emit : Act) (new : S
     h.left,
   )
   some-lines out halt (Err other) some (inr h) is = absurd
-      (no-memory u _ first shown new other (λ m. some (ap (λ (e : Halt). Err e) m)) h)
+      (no-memory u _ _ first shown new other (λ m. some (ap (λ (e : Halt). Err e) m)) h)
 
 -- what control did and the emissions behind it
 pub weaves-emitted : (ran : Ran) (old mid set new : Stage) (es : List Event)

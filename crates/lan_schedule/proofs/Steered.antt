@@ -14,7 +14,7 @@ use Rattle.trace_acts.specs.Halts.{halt_of_unwritten}
 use Rattle.lan_schedule.specs.declared.stage.Stage.{Stage}
 use Rattle.lan_schedule.specs.Races.{Chance, Worker, behind_numbers}
 use Rattle.lan_schedule.specs.World.{World, is_racing, settings}
-use Rattle.lan_schedule.specs.Acts.{Act, Goes, Stops, begun_race, is_stop, perform}
+use Rattle.lan_schedule.specs.Acts.{Act, BeginsAt, Goes, Stops, begun_race, is_stop, perform}
 use Rattle.lan_schedule.specs.Reports.{AreTold, Report, reports}
 use Rattle.lan_schedule.specs.Ends.{Ends, WasBroken, WasTold, WasToldTo, moment}
 use Rattle.lan_schedule.specs.Sound.{IsTidy}
@@ -178,7 +178,7 @@ module _ (w : World) (begun moved : Stage) (steps : List Step) (kept : List (Lis
     )
     steered-err halt some (inr h) = absurd (some (memory h.cause)) where
       memory : ((halt ≡ halts.Memory)
-          × WasToldTo KeepsReport (begun_race workers w) h.world act [] kept)
+          × WasToldTo KeepsReport (begun_race workers w) h.world (BeginsAt act (begun_race workers w)) [] kept)
           ⊎ WasBroken KeepsReport KeepsNoMore (begun_race workers w) h.world [] kept halt
           → halt ≡ halts.Memory
       memory (inl both) = both.0

@@ -72,12 +72,12 @@ reported out = reports (world_of out).run
 
 -- All that events showed up to a world was told in which a part of the act begins, and nothing of the one
 -- event behind it, if another world has one.
-pub record WasToldTo {K : Type 0} (Took : K → Report → K → Type 0) (w v : World) (act : Act)
-    (old new : K) : Type 0 where
+pub record WasToldTo {K : Type 0} (Took : K → Report → K → Type 0) (w v : World)
+    (IsBegin : World → Type 0) (old new : K) : Type 0 where
   pub world : World
   pub tidy : IsTidy world
   pub same : is_racing world.kept.phase ≡ is_racing w.kept.phase
-  pub begins : BeginsAt act w world
+  pub begins : IsBegin world
   pub told : WasTold Took w world old new
   pub untold : List Report
   pub since : reports v.run ≡ reports world.run ++ untold
@@ -86,14 +86,14 @@ pub record WasToldTo {K : Type 0} (Took : K → Report → K → Type 0) (w v : 
 -- A tidy world was reached on the way, where memory was wanting, or the outlet broke. For want of memory
 -- nothing was told of a race, unless the outlet itself took no more.
 pub record WasCut {R K : Type 0} (Counts : World → R → Type 0) (Took : K → Report → K → Type 0)
-    (Broke : K → Report → K → Unwritten → Type 0) (w : World) (act : Act) (old : K)
+    (Broke : K → Report → K → Unwritten → Type 0) (w : World) (IsOn IsBegin : World → Type 0) (old : K)
     (new : Moment R K) (halt : Halt) : Type 0 where
   pub world : World
   pub tidy : IsTidy world
   pub counts : Counts world new.value
   pub same : is_racing world.kept.phase ≡ is_racing w.kept.phase
-  pub on_way : IsOnWay act w world
-  pub cause : ((halt ≡ halts.Memory) × WasToldTo Took w world act old new.outlet)
+  pub on_way : IsOn world
+  pub cause : ((halt ≡ halts.Memory) × WasToldTo Took w world IsBegin old new.outlet)
       ⊎ WasBroken Took Broke w world old new.outlet halt
 
 -- How a call ends that begins in a world, and would perform this act: in the midst of a race
@@ -108,4 +108,4 @@ Ends Stands Leaves Counts Took Broke w later act old new (Ok done) =
     × (is_racing v.kept.phase ≡ is_racing w.kept.phase)
 Ends Stands Leaves Counts Took Broke w later act old new (Err halt) =
     IsStopped Leaves Took w later (perform act w) old new halt
-    ⊎ WasCut Counts Took Broke w act old new halt
+    ⊎ WasCut Counts Took Broke w (IsOnWay act w) (BeginsAt act w) old new halt
