@@ -118,12 +118,7 @@ impl Tally {
             Fact::Installed { .. } => more(&mut self.installed),
             Fact::Unclaimed { .. } => more(&mut self.noclaims),
             Fact::Ticked { .. } => more(&mut self.ticks),
-            Fact::Life { .. }
-            | Fact::Server { .. }
-            | Fact::Dropped { .. }
-            | Fact::Retired { .. }
-            | Fact::Untaken { .. }
-            | Fact::HeardMka { .. } => {}
+            _ => {}
         }
     }
 
