@@ -1,10 +1,9 @@
 -- What an event leaves.
-use Rattle.std.proofs.Common.{◌≡◌, ◌<◌, ◌≤◌, ℕ, ◌+◌, ◌^◌, Bool, true, false, length, List, [], ◌∷◌, ◌++◌, Option, Some, None}
+use Rattle.std.proofs.Common.{◌≡◌, ◌<◌, ◌≤◌, ℕ, ◌+◌, Bool, true, false, length, List, [], ◌∷◌, ◌++◌, Option, Some, None}
 use Rattle.std.proofs.Common.{inl, inr, refl, sym, ap, ◌∙◌, subst, arith}
-use Rattle.std.specs.Prelude.{◌⊎◌, Result, Ok, Err, MatchResult, map, unwrap_or, is_some, option_map}
+use Rattle.std.specs.Prelude.{◌⊎◌, Result, Ok, Err, MatchResult, unwrap_or, is_some, option_map}
 use Rattle.std.specs.Result.{IsErrAnd}
 use Rattle.std.proofs.lemmas.Result.{err_from_is_err_and}
-use Rattle.std.proofs.lemmas.List.{map-append}
 use Rattle.lan_base.specs.declared.frame.UserFrame.{UserFrame}
 use Rattle.lan_core.specs.declared.event.Event.{Event}
 use Rattle.lan_core.specs.declared.event.Event.TheVariants as events
@@ -14,7 +13,7 @@ use Rattle.lan_core.specs.declared.stop.Stop.{Stop}
 use Rattle.lan_core.specs.declared.stop.Stop.TheVariants as stops
 use Rattle.lan_core.specs.declared.stop.StepError.{StepError}
 use Rattle.lan_core.specs.declared.stop.StepError.TheVariants.{Stopped}
-use Rattle.lan_core.specs.Run.{Run, Happening, Profile, happened, started, stations, facts_of}
+use Rattle.lan_core.specs.Run.{Run, Happening, happened, stations, facts_of}
 use Rattle.lan_core.specs.Expected.{expected, drawn_from}
 use Rattle.lan_core.specs.Stops.{MayCome, first_stop}
 use Rattle.lan_core.specs.Types.{IsTyped}

@@ -1,7 +1,7 @@
 -- The world behind a race is tidy, and the group at work stands for it once the claims' frames wait.
 use Rattle.std.proofs.Common.{◌≡◌, ◌≤◌, ℕ, ◌+◌, Bool, true, false, List, ◌++◌, length, map, filter}
 use Rattle.std.proofs.Common.{sym, ap, ◌∙◌, subst, arith}
-use Rattle.std.specs.Prelude.{None, is_some, sum}
+use Rattle.std.specs.Prelude.{None, is_some}
 use Rattle.std.specs.List.{AllByRecursion}
 use Rattle.std.proofs.lemmas.List.Elements.{All-push, recursion_from_All}
 use Rattle.lan_base.specs.declared.frame.Protected.{Protected}
@@ -15,7 +15,7 @@ use Rattle.lan_core.specs.Fresh.{IsFresh, IsUnforged}
 use Rattle.lan_core.specs.Ledgers.{AreNumbered, Frame, emitted}
 use Rattle.lan_core.specs.Legal.{IsLegal, IsThrifty}
 use Rattle.lan_core.specs.Parts.{AreAlike, claimed_in, followed_by, without_claims}
-use Rattle.lan_core.specs.Run.{Happening, Profile, Run, facts_of, stations}
+use Rattle.lan_core.specs.Run.{Happening, Run, facts_of}
 use Rattle.lan_core.specs.Standing.{StandsFor as GroupStandsFor}
 use Rattle.lan_core.proofs.Public.{alike-itself, alike-part, within-same}
 use Rattle.fact_tally.specs.Summary.{counts}
@@ -33,7 +33,7 @@ use Rattle.lan_schedule.specs.declared.race.Ran.{Ran}
 use Rattle.lan_schedule.specs.declared.stage.Stage.{Stage}
 use Rattle.lan_schedule.specs.Races.{Chance, Claimed, IsDealt, Numbered, Worker}
 use Rattle.lan_schedule.specs.Races.{claims_in, count_numbered, woven_in}
-use Rattle.lan_schedule.specs.World.{World, air_octets, settings}
+use Rattle.lan_schedule.specs.World.{World, settings}
 use Rattle.lan_schedule.specs.Acts.{after_race, begun_race, station_of}
 use Rattle.lan_schedule.specs.Reports.{reports}
 use Rattle.lan_schedule.specs.Sound.{IsTidy, numbers_of}
