@@ -5,9 +5,9 @@ use Rattle.lan_base.specs.Ranges.{most_input}
 use Rattle.capture_packets.specs.Captures.{Told, capture}
 use Rattle.capture_packets.specs.Packets.{Seen, seen}
 use Rattle.capture_packets.specs.Reading.{ReadsNext, TellsOn}
-use Rattle.capture_packets.specs.declared.end.End.{End}
+use Rattle.capture_packets.specs.Reading.{FileEnd}
 use Rattle.capture_packets.specs.declared.fault.CaptureFault.TheVariants.{Cut}
-use Rattle.capture_packets.specs.declared.end.End.TheVariants as reads
+use Rattle.text_lines.specs.declared.reading.End.TheVariants as reads
 use Rattle.capture_packets.specs.declared.packet.Packet.{Packet}
 use Rattle.capture_packets.specs.declared.reader.PacketReader.{PacketReader}
 use Rattle.key_ring.specs.Reading.{file_in}
@@ -31,24 +31,24 @@ after-both (Some xs) one two = ap (λ (ys : List ℕ). Some ys) (append_assoc xs
 -- ---- what reading a packet tells
 
 -- whatever is read behind these packets, a reader stands so
-abbrev pub Reads : PacketReader → PacketReader → Option (List ℕ) → Option (List ℕ) → Packet → Result Bool End → Type 0
+abbrev pub Reads : PacketReader → PacketReader → Option (List ℕ) → Option (List ℕ) → Packet → Result Bool FileEnd → Type 0
 Reads reader new left left_then packet r =
     (new.start ≡ reader.start)
     × ((text : List ℕ) (packets : List Seen) (t : Told) → TellsOn most_input text reader left packets t
     → ReadsNext most_input text packets t packet new left_then r)
 
-is-read : (r : Result Bool End) → ending_of r ≡ Ok None → r ≡ Ok true
+is-read : (r : Result Bool FileEnd) → ending_of r ≡ Ok None → r ≡ Ok true
 is-read (Ok true) is = refl
 is-read (Ok false) is = absurd (cc is)
-is-read (Err (reads.Refused at why)) is = absurd (cc is)
+is-read (Err (reads.Refused (at, why))) is = absurd (cc is)
 is-read (Err reads.Limit) is = absurd (cc is)
 is-read (Err reads.ReadFault) is = absurd (cc is)
 is-read (Err reads.Memory) is = absurd (cc is)
 
-only-memory : (r : Result Bool End) (end : AuditEnd) → ending_of r ≡ Err end → end ≡ ends.Memory
+only-memory : (r : Result Bool FileEnd) (end : AuditEnd) → ending_of r ≡ Err end → end ≡ ends.Memory
 only-memory (Ok true) end is = absurd (cc is)
 only-memory (Ok false) end is = absurd (cc is)
-only-memory (Err (reads.Refused at why)) end is = absurd (cc is)
+only-memory (Err (reads.Refused (at, why))) end is = absurd (cc is)
 only-memory (Err reads.Limit) end is = absurd (cc is)
 only-memory (Err reads.ReadFault) end is = absurd (cc is)
 only-memory (Err reads.Memory) end is = cc (sym is)
@@ -61,14 +61,14 @@ SoEnds _ text left ring now = Unit {0}
 module _ (text : List ℕ) (reader new : PacketReader) (left left_then : Option (List ℕ)) (packets : List Seen)
     (packet : Packet) (ring : Ring) (now : List Unwrapped) (on : IsReading text reader left packets)
     (all : packets ≡ in_order now) where
-  so-ends : (r : Result Bool End) → new.start ≡ reader.start
+  so-ends : (r : Result Bool FileEnd) → new.start ≡ reader.start
       → ReadsNext most_input text packets on.later packet new left_then r
       → SoEnds (ending_of r) text left_then ring now
   so-ends (Ok true) same is = tt
   so-ends (Ok false) same is =
       subst (λ (ps : List Seen). (length text ≤ most_input) × (left_then ≡ Some []) × HasAll (file_in text) ps) all
       (reading-whole text reader new left left_then packets packet on is)
-  so-ends (Err (reads.Refused at why)) same is =
+  so-ends (Err (reads.Refused (at, why))) same is =
       subst (λ (ps : List Seen). IsRefusedBehind (file_in text) ps at why × (why ≡ Cut → length text ≤ most_input)) all
       (reading-refused text reader new left left_then packets packet at why on is)
   so-ends (Err reads.Limit) same is =
@@ -176,17 +176,17 @@ module _ (shows : Bool) (ring : Ring) (told held : Option (List ℕ)) (reader ne
       part-told (at.waiting ++ seen packet ∷ []) it (λ text e. reading-front text new left_then _ (one-more packet text e is))
   taken packet a_then b_then (Err _) is it = absurd it
 
-  pub take-one : (packet : Packet) (a_then : Auditor) (b_then : Batch) (r : Result Bool End) (t : Result (Unit {0}) AuditEnd)
+  pub take-one : (packet : Packet) (a_then : Auditor) (b_then : Batch) (r : Result Bool FileEnd) (t : Result (Unit {0}) AuditEnd)
       → Reads reader new left left_then packet r → ending_of r ≡ Ok None
       → Takes shows ring at.before at.waiting (seen packet) at.written now then a_then b_then t
       → ReadsOne shows ring told held new left_then then a_then b_then (limit_of t)
   take-one packet a_then b_then r t is none it =
       taken packet a_then b_then t
-      (subst (λ (r : Result Bool End). Reads reader new left left_then packet r) (is-read r none) is) it
+      (subst (λ (r : Result Bool FileEnd). Reads reader new left left_then packet r) (is-read r none) is) it
 
   -- ---- none is read, and those that wait are settled
 
-  pub settle-all : (packet : Packet) (a_then : Auditor) (b_then : Batch) (r : Result Bool End) (ending : Ending)
+  pub settle-all : (packet : Packet) (a_then : Auditor) (b_then : Batch) (r : Result Bool FileEnd) (ending : Ending)
       → Reads reader new left left_then packet r → ending_of r ≡ Ok (Some ending)
       → IsSettledUp shows ring at.before at.waiting at.written now then a_then b_then
       → HasRead shows ring told held ending left_then then a_then b_then
@@ -217,7 +217,7 @@ module _ (shows : Bool) (ring : Ring) (told held : Option (List ℕ)) (reader ne
   settle-stops new_then a_then b_then _ it = absurd it
 
   -- there was no memory
-  pub not-read : (new_then : PacketReader) (a_then : Auditor) (b_then : Batch) (r : Result Bool End) (end : AuditEnd)
+  pub not-read : (new_then : PacketReader) (a_then : Auditor) (b_then : Batch) (r : Result Bool FileEnd) (end : AuditEnd)
       → ending_of r ≡ Err end → ReadsOne shows ring told held new_then left_then now a_then b_then (Err end)
   not-read new_then a_then b_then r end is =
       subst (λ (x : AuditEnd). ReadsOne shows ring told held new_then left_then now a_then b_then (Err x))

@@ -4,14 +4,13 @@ use Rattle.std.proofs.lemmas.Bool.{cases_lt}
 use Rattle.std.proofs.lemmas.List.{append_cancel_left}
 use Rattle.lan_base.specs.Ranges.{most_input}
 use Rattle.octet_supply.proofs.Public.{take-behind}
-use Rattle.capture_packets.specs.declared.end.End.TheVariants as ends
+use Rattle.text_lines.specs.declared.reading.End.TheVariants as ends
 use Rattle.capture_packets.specs.declared.fault.CaptureFault.{CaptureFault}
 use Rattle.capture_packets.specs.declared.fault.CaptureFault.TheVariants.{Cut}
 use Rattle.capture_packets.specs.Captures.{Step, opened}
 use Rattle.capture_packets.specs.Reading.{IsWithinHead, Opens}
 use Rattle.capture_packets.proofs.Public.{unopened}
 use Rattle.audit_text.specs.Parting.{capture_behind}
-use Rattle.key_ring.specs.declared.end.RingEnd.TheVariants as ring_ends
 use Rattle.key_ring.specs.Reading.{ReadsRing, file_in}
 use Rattle.key_ring.specs.Rings.{Ring}
 use Rattle.capture_audit.specs.Reading.{IsHeadFailed, IsHeadPast, IsHeadRefused}
@@ -24,10 +23,10 @@ pub none-opens : (text : List ℕ) (left : Option (List ℕ)) (ring : Ring)
     → ReadsRing text left (Ok (ring, None)) → IsHeadRefused text 0 Cut
 none-opens text left ring (said, none, few, end) = (refl, ap opened none, (λ cut. few))
 
-pub ring-past : (text : List ℕ) (left : Option (List ℕ)) → ReadsRing text left (Err ring_ends.Limit) → IsHeadPast text
+pub ring-past : (text : List ℕ) (left : Option (List ℕ)) → ReadsRing text left (Err ends.Limit) → IsHeadPast text
 ring-past text left (longer, un) = (longer, ap opened un.none)
 
-pub ring-failed : (text : List ℕ) (left : Option (List ℕ)) → ReadsRing text left (Err ring_ends.ReadFault)
+pub ring-failed : (text : List ℕ) (left : Option (List ℕ)) → ReadsRing text left (Err ends.ReadFault)
     → IsHeadFailed text left
 ring-failed text left (taken, is, un) = record {
   taken = taken;
@@ -42,7 +41,7 @@ ring-failed text left (taken, is, un) = record {
 -- ---- in the head
 
 pub head-refused : (text given : List ℕ) (left : Option (List ℕ)) (at : ℕ) (why : CaptureFault)
-    → Opens most_input text given (file_in text) left (Err (ends.Refused at why)) → IsHeadRefused text at why
+    → Opens most_input text given (file_in text) left (Err (ends.Refused (at, why))) → IsHeadRefused text at why
 head-refused text given left at why o = o
 
 pub head-past : (text given : List ℕ) (left : Option (List ℕ))

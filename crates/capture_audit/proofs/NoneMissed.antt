@@ -18,8 +18,8 @@ use Rattle.known_keys.specs.History.{Entry, keys, sak_of}
 use Rattle.known_keys.proofs.Public.{no-fewer, stays-broken}
 use Rattle.known_keys.specs.OneKey.{BreaksOneKey}
 use Rattle.key_ring.specs.Reading.{ReadsRing}
-use Rattle.key_ring.specs.declared.end.RingEnd.{RingEnd}
-use Rattle.key_ring.specs.declared.end.RingEnd.TheVariants as rings
+use Rattle.key_ring.specs.Reading.{RingEnd}
+use Rattle.text_lines.specs.declared.reading.End.TheVariants as rings
 use Rattle.least_pairs.specs.Pairs.{IsJudged, IsLeast}
 use Rattle.least_pairs.proofs.Public.{front-stays}
 use Rattle.capture_packets.specs.declared.fault.CaptureFault.{CaptureFault}
@@ -144,7 +144,7 @@ pub ring-missed : (asks : Asks) (failed : Type 0) (text : List ℕ) (left : Opti
     (packets : List Unwrapped) (end : RingEnd)
     → IsRead text (Some []) ring packets endings.Whole → ReadsRing text left (Err end)
     → IsOfOutside asks failed (Err (end_of_ring end))
-ring-missed asks failed text left ring packets (rings.Line line why) read is = absurd (cc (sym read.said ∙ is))
+ring-missed asks failed text left ring packets (rings.Refused (line, why)) read is = absurd (cc (sym read.said ∙ is))
 ring-missed asks failed text left ring packets rings.Limit read is =
     let past = is.0 in let few = read.ends.0 in absurd (omega (arith, past, few))
 ring-missed asks failed text left ring packets rings.ReadFault read is = inl refl

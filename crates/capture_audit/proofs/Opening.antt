@@ -5,13 +5,12 @@ use Rattle.std.proofs.lemmas.List.{append-nil}
 use Rattle.audit_report.specs.Lines.{set_lines}
 use Rattle.lan_base.specs.Ranges.{most_input}
 use Rattle.capture_packets.specs.Reading.{Opens}
-use Rattle.capture_packets.specs.declared.end.End.{End}
-use Rattle.capture_packets.specs.declared.end.End.TheVariants as reads
+use Rattle.capture_packets.specs.Reading.{FileEnd}
+use Rattle.text_lines.specs.declared.reading.End.TheVariants as reads
 use Rattle.capture_packets.specs.declared.reader.PacketReader.{PacketReader}
 use Rattle.key_ring.specs.Reading.{ReadsRing, file_in}
 use Rattle.key_ring.specs.Rings.{Ring, ring_in}
-use Rattle.key_ring.specs.declared.end.RingEnd.{RingEnd}
-use Rattle.key_ring.specs.declared.end.RingEnd.TheVariants as rings
+use Rattle.key_ring.specs.Reading.{RingEnd}
 use Rattle.lan_base.specs.Faults.{Rose}
 use Rattle.octet_supply.specs.Supplying.{Held, Stands}
 use Rattle.capture_audit.specs.declared.asks.Asks.{Asks}
@@ -37,10 +36,10 @@ ring-said text left ring (Some supply) is = is.0
 
 pub ring-ends : (asks : Asks) (text : List ℕ) (left held : Option (List ℕ)) (failed : Type 0) (end : RingEnd)
     → ReadsRing text left (Err end) → EndsAudit asks text left failed held held (Err (end_of_ring end))
-ring-ends asks text left held failed (rings.Line line why) is = (is, refl)
-ring-ends asks text left held failed rings.Limit is = inl (ring-past text left is, refl)
-ring-ends asks text left held failed rings.ReadFault is = inl (ring-failed text left is, refl)
-ring-ends asks text left held failed rings.Memory is = inl refl
+ring-ends asks text left held failed (reads.Refused (line, why)) is = (is, refl)
+ring-ends asks text left held failed reads.Limit is = inl (ring-past text left is, refl)
+ring-ends asks text left held failed reads.ReadFault is = inl (ring-failed text left is, refl)
+ring-ends asks text left held failed reads.Memory is = inl refl
 
 -- the keys that are set by hand are too many, or there is no memory
 pub set-ends : (X : Type 0) (asks : Asks) (text : List ℕ) (left left_then held : Option (List ℕ)) (failed : Type 0) (ring : Ring)
@@ -59,9 +58,9 @@ not-set-so X ring _ is = absurd is
 
 -- ---- the head
 
-pub opens-end : (text given : List ℕ) (left : Option (List ℕ)) (end : End) → take most_input text ≡ given ++ file_in text
+pub opens-end : (text given : List ℕ) (left : Option (List ℕ)) (end : FileEnd) → take most_input text ≡ given ++ file_in text
     → Opens most_input text given (file_in text) left (Err end) → OpensFile text left (Err (end_of_head end))
-opens-end text given left (reads.Refused at why) visible is = head-refused text given left at why is
+opens-end text given left (reads.Refused (at, why)) visible is = head-refused text given left at why is
 opens-end text given left reads.Limit visible is = head-past text given left is
 opens-end text given left reads.ReadFault visible is = head-failed text given left visible is
 opens-end text given left reads.Memory visible is = tt
@@ -71,7 +70,7 @@ pub opens-on : (text given : List ℕ) (reader : PacketReader) (left : Option (L
 opens-on text given reader left visible is = ((is.0, is.1), reading-begins text given reader left visible is)
 
 -- behind the key text
-pub open-err : (text : List ℕ) (left left_then : Option (List ℕ)) (ring : Ring) (supply : Held) (end : End)
+pub open-err : (text : List ℕ) (left left_then : Option (List ℕ)) (ring : Ring) (supply : Held) (end : FileEnd)
     → ReadsRing text left (Ok (ring, Some supply))
     → ((given : List ℕ) → Stands most_input text given supply left → take most_input text ≡ given ++ file_in text
     → Opens most_input text given (file_in text) left_then (Err end))

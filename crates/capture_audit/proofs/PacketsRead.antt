@@ -6,7 +6,7 @@ use Rattle.std.proofs.lemmas.Bool.Decides.{nat_tests}
 use Rattle.std.proofs.lemmas.List.{append-nil, take-append-le, take_all}
 use Rattle.lan_base.specs.Ranges.{most_input}
 use Rattle.capture_packets.specs.declared.block.Block.{Block}
-use Rattle.capture_packets.specs.declared.end.End.TheVariants as ends
+use Rattle.text_lines.specs.declared.reading.End.TheVariants as ends
 use Rattle.capture_packets.specs.declared.fault.CaptureFault.{CaptureFault}
 use Rattle.capture_packets.specs.declared.fault.CaptureFault.TheVariants.{Cut}
 use Rattle.capture_packets.specs.declared.packet.Packet.{Packet}
@@ -78,7 +78,7 @@ reading-whole text reader new left left_then packets packet r (none, few, end) =
 
 pub reading-refused : (text : List ℕ) (reader new : PacketReader) (left left_then : Option (List ℕ))
     (packets : List Seen) (packet : Packet) (at : ℕ) (why : CaptureFault) (r : IsReading text reader left packets)
-    → ReadsNext most_input text packets r.later packet new left_then (Err (ends.Refused at why))
+    → ReadsNext most_input text packets r.later packet new left_then (Err (ends.Refused (at, why)))
     → IsRefusedBehind (file_in text) packets at why × (why ≡ Cut → length text ≤ most_input)
 reading-refused text reader new left left_then packets packet at why r (is, within) =
     (refused-later text packets r.later at why r.all is, within)

@@ -8,8 +8,8 @@ use Rattle.audit_report.specs.declared.ending.Ending.TheVariants as endings
 use Rattle.audit_report.specs.declared.tally.Tally.{Tally}
 use Rattle.key_ring.specs.Reading.{ReadsRing}
 use Rattle.key_ring.specs.Rings.{Ring}
-use Rattle.key_ring.specs.declared.end.RingEnd.{RingEnd}
-use Rattle.key_ring.specs.declared.end.RingEnd.TheVariants as rings
+use Rattle.key_ring.specs.Reading.{RingEnd}
+use Rattle.text_lines.specs.declared.reading.End.TheVariants as rings
 use Rattle.lan_base.specs.Faults.{Rose}
 use Rattle.octet_supply.specs.Supplying.{Held}
 use Rattle.capture_audit.specs.declared.asks.Asks.{Asks}
@@ -31,7 +31,7 @@ use Rattle.capture_audit.proofs.Reporting.{ends-of}
 
 pub ring-views : (text : List ℕ) (left : Option (List ℕ)) (end : RingEnd) → ReadsRing text left (Err end)
     → Views text left (Err (end_of_ring end))
-ring-views text left (rings.Line line why) is = is
+ring-views text left (rings.Refused (line, why)) is = is
 ring-views text left rings.Limit is = ring-past text left is
 ring-views text left rings.ReadFault is = ring-failed text left is
 ring-views text left rings.Memory is = tt

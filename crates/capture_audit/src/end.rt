@@ -4,9 +4,9 @@ ghost use Rattle.std.specs.Prelude.{◌≡◌};
 ghost use Rattle.capture_audit.specs.declared.end.AuditEnd.TheVariants as ends;
 ghost use Rattle.capture_audit.specs.inside.Auditing.{end_of_head, end_of_ring};
 
-use capture_packets::{CaptureFault, End};
-use key_ring::RingEnd;
+use capture_packets::CaptureFault;
 use std::alloc::{AllocError, AllocFailed};
+use text_lines::End;
 use thiserror::Error;
 use trace_text::TextFault;
 
@@ -60,25 +60,25 @@ impl<T: Drop> From<AllocFailed<T>> for AuditEnd {
     }
 }
 
-impl From<RingEnd> for AuditEnd {
+impl From<End<(u32, TextFault)>> for AuditEnd {
     ghost from_gives = { λ why end. end ≡ end_of_ring why };
 
-    fn from(why: RingEnd) -> Self {
+    fn from(why: End<(u32, TextFault)>) -> Self {
         match why {
-            RingEnd::Line { line, why } => AuditEnd::KeyLine { line, why },
-            RingEnd::Limit => AuditEnd::InputLimit,
-            RingEnd::ReadFault => AuditEnd::ReadFault,
-            RingEnd::Memory => AuditEnd::Memory,
+            End::Refused((line, why)) => AuditEnd::KeyLine { line, why },
+            End::Limit => AuditEnd::InputLimit,
+            End::ReadFault => AuditEnd::ReadFault,
+            End::Memory => AuditEnd::Memory,
         }
     }
 }
 
-impl From<End> for AuditEnd {
+impl From<End<(u32, CaptureFault)>> for AuditEnd {
     ghost from_gives = { λ why end. end ≡ end_of_head why };
 
-    fn from(why: End) -> Self {
+    fn from(why: End<(u32, CaptureFault)>) -> Self {
         match why {
-            End::Refused { at, why } => AuditEnd::Refused { at, why },
+            End::Refused((at, why)) => AuditEnd::Refused { at, why },
             End::Limit => AuditEnd::InputLimit,
             End::ReadFault => AuditEnd::ReadFault,
             End::Memory => AuditEnd::Memory,

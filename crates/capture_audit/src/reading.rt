@@ -11,10 +11,11 @@ use crate::auditor::Auditor;
 use crate::batch::Batch;
 use crate::end::AuditEnd;
 use audit_report::Ending;
-use capture_packets::{End, Packet, PacketReader};
+use capture_packets::{FileEnd, Packet, PacketReader};
 use lan_base::{Sink, Source};
 use std::alloc::Global;
 use std::thread::Threads;
+use text_lines::End;
 
 /// Reads packets until there are no more, and settles them.
 pub fn read_packets<T: Threads + Sync, S: Source, K: Sink>(
@@ -76,13 +77,13 @@ fn read_one<T: Threads + Sync, S: Source, K: Sink>(
 }
 
 /// How reading ended, if no packet was read.
-fn ending_of(read: Result<bool, End>) -> Result<Option<Ending>, AuditEnd>
+fn ending_of(read: Result<bool, FileEnd>) -> Result<Option<Ending>, AuditEnd>
     ensures { result ≡ ending_of read }
 {
     match read {
         Ok(true) => Ok(None),
         Ok(false) => Ok(Some(Ending::Whole)),
-        Err(End::Refused { at, why }) => Ok(Some(Ending::Octet { at, why })),
+        Err(End::Refused((at, why))) => Ok(Some(Ending::Octet { at, why })),
         Err(End::Limit) => Ok(Some(Ending::InputLimit)),
         Err(End::ReadFault) => Ok(Some(Ending::Fault)),
         Err(End::Memory) => Err(AuditEnd::Memory),

@@ -6,9 +6,9 @@ use Rattle.std.proofs.lemmas.Bool.Decides.{nat_tests}
 use Rattle.std.proofs.lemmas.List.{length-take-le, take-append-le, take_all}
 use Rattle.octet_supply.specs.Supplying.{Held, Stands}
 use Rattle.octet_supply.proofs.Public.{no-octets, within-held}
+use Rattle.capture_packets.specs.Reading.{FileEnd}
 use Rattle.capture_packets.specs.declared.block.Block.{Block}
-use Rattle.capture_packets.specs.declared.end.End.{End}
-use Rattle.capture_packets.specs.declared.end.End.TheVariants.{Limit, Memory, ReadFault, Refused}
+use Rattle.text_lines.specs.declared.reading.End.TheVariants.{Limit, Memory, ReadFault, Refused}
 use Rattle.capture_packets.specs.declared.fault.CaptureFault.{CaptureFault}
 use Rattle.capture_packets.specs.declared.fault.CaptureFault.TheVariants as fault
 use Rattle.capture_packets.specs.Packets.{Context}
@@ -112,7 +112,7 @@ frames-refused : (limit : ℕ) (text given behind held : List ℕ) (known : Cont
     (left : Option (List ℕ)) (most : ℕ) (past : Bool) (why : CaptureFault)
     → Sees limit text given behind held most past left → held ≢ []
     → frame_of known behind ≡ Err why → why ≢ fault.Cut
-    → Frames limit text given behind known at new left (Err (Refused at why))
+    → Frames limit text given behind known at new left (Err (Refused (at, why)))
 frames-refused limit text given behind held known at new left most past why s some is other =
     (refl, s.some some, is, (λ cut. absurd (other cut)))
 
@@ -171,9 +171,9 @@ judged-some at false n (Err fault.Interface) some = tt
 
 -- looking failed
 pub frames-look : (limit : ℕ) (text given behind : List ℕ) (known : Context) (at : ℕ) (middle new : Held)
-    (left : Option (List ℕ)) (e : End) → Looks limit text given (most_fields known.layout) middle left (Err e)
+    (left : Option (List ℕ)) (e : FileEnd) → Looks limit text given (most_fields known.layout) middle left (Err e)
     → Frames limit text given behind known at new left (Err e)
-frames-look limit text given behind known at middle new left (Refused place why) l = absurd l
+frames-look limit text given behind known at middle new left (Refused (place, why)) l = absurd l
 frames-look limit text given behind known at middle new left Limit l = absurd l
 frames-look limit text given behind known at middle new left ReadFault l = l
 frames-look limit text given behind known at middle new left Memory l = tt
@@ -181,10 +181,10 @@ frames-look limit text given behind known at middle new left Memory l = tt
 -- ---- a step that has no block
 
 pub steps-frame : (limit : ℕ) (text given behind : List ℕ) (known now : Context) (at place : ℕ) (packet : Packet)
-    (middle new : Held) (left : Option (List ℕ)) (e : End) → place ≡ at
+    (middle new : Held) (left : Option (List ℕ)) (e : FileEnd) → place ≡ at
     → Frames limit text given behind known place middle left (Err e)
     → StepsOn limit text given behind known at packet now new left (Err e)
-steps-frame limit text given behind known now at place packet middle new left (Refused there why) here f =
+steps-frame limit text given behind known now at place packet middle new left (Refused (there, why)) here f =
     (f.0 ∙ here, f.1, ap (step_by known behind) f.2, f.3)
 steps-frame limit text given behind known now at place packet middle new left Limit here (longer, inl none) =
     (longer, inl none)

@@ -10,10 +10,11 @@ use Rattle.capture_file.specs.declared.order.Order.{Order}
 use Rattle.capture_file.specs.declared.order.Order.TheVariants.{Big, Little}
 use Rattle.capture_file.specs.Pcap.{ethernet, link_type, number_in}
 use Rattle.octet_supply.specs.Supplying.{Held, Passes, Stands}
+use Rattle.capture_packets.specs.Reading.{FileEnd}
 use Rattle.capture_packets.specs.declared.block.Block.{Block}
 use Rattle.capture_packets.specs.declared.block.What.TheVariants as what
-use Rattle.capture_packets.specs.declared.end.End.{End}
-use Rattle.capture_packets.specs.declared.end.End.TheVariants.{Limit, Memory, ReadFault, Refused}
+use Rattle.text_lines.specs.Ends.{end_of}
+use Rattle.text_lines.specs.declared.reading.End.TheVariants.{Limit, Memory, ReadFault, Refused}
 use Rattle.capture_packets.specs.declared.fault.CaptureFault.{CaptureFault}
 use Rattle.capture_packets.specs.declared.fault.CaptureFault.TheVariants as fault
 use Rattle.capture_packets.specs.declared.head.Head.{Head}
@@ -27,7 +28,7 @@ use Rattle.capture_packets.specs.Packets.{Context}
 use Rattle.capture_packets.specs.Records.{parts_in}
 use Rattle.capture_packets.specs.Blocks.{marked_order, section_by, section_in, section_type, typed_in}
 use Rattle.capture_packets.specs.Captures.{Step, blank, blocks_head, done, frame_of, head_by, head_in, is_closed, size, step, step_by}
-use Rattle.capture_packets.specs.inside.Taking.{BeginsBlocks, BeginsRecords, Looks, ReadsHead, StepsOn, end_of, judged_head, no_packet}
+use Rattle.capture_packets.specs.inside.Taking.{BeginsBlocks, BeginsRecords, Looks, ReadsHead, StepsOn, judged_head, no_packet}
 use Rattle.capture_packets.proofs.Framed.{Sees}
 use Rattle.capture_packets.proofs.Taken.{Got, got-failed, got-more, got-past}
 
@@ -53,9 +54,9 @@ heads-by limit text given file held new left false (Err fault.Block) stands s is
 heads-by limit text given file held new left true (Err fault.Interface) stands s is short = (refl, is, (λ e. cc e))
 heads-by limit text given file held new left false (Err fault.Interface) stands s is short = (refl, is, (λ e. cc e))
 
-pub heads-look : (limit : ℕ) (text given file : List ℕ) (middle new : Held) (left : Option (List ℕ)) (e : End)
+pub heads-look : (limit : ℕ) (text given file : List ℕ) (middle new : Held) (left : Option (List ℕ)) (e : FileEnd)
     → Looks limit text given 24 middle left (Err e) → ReadsHead limit text given file new left (Err e)
-heads-look limit text given file middle new left (Refused place why) l = absurd l
+heads-look limit text given file middle new left (Refused (place, why)) l = absurd l
 heads-look limit text given file middle new left Limit l = absurd l
 heads-look limit text given file middle new left ReadFault l = l
 heads-look limit text given file middle new left Memory l = tt
@@ -270,10 +271,10 @@ begins-blocks limit text given file now at packet new left progress.End head (no
     absurd (some-file file head none)
 
 pub begins-err : (limit : ℕ) (text given file : List ℕ) (now later : Context) (at : ℕ) (packet : Packet)
-    (middle new : Held) (left : Option (List ℕ)) (e : End) → head_in (take 24 file) ≡ Ok blocks_head → at ≡ 0
+    (middle new : Held) (left : Option (List ℕ)) (e : FileEnd) → head_in (take 24 file) ≡ Ok blocks_head → at ≡ 0
     → StepsOn limit text given file blank at packet now middle left (Err e)
     → BeginsBlocks limit text given file later new left (Err e)
-begins-err limit text given file now later at packet middle new left (Refused place why) head first s =
+begins-err limit text given file now later at packet middle new left (Refused (place, why)) head first s =
     (s.0 ∙ first, s.2, s.3)
 begins-err limit text given file now later at packet middle new left Limit head first (longer, inl none) =
     absurd (some-file file head none)

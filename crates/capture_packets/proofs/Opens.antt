@@ -4,8 +4,7 @@ use Rattle.std.proofs.lemmas.List.{length-take, length-take-le, take-append-drop
 use Rattle.std.proofs.Math.Nat.{min-le_left}
 use Rattle.std.proofs.Math.Seq.{drop-append_seam}
 use Rattle.octet_supply.specs.Supplying.{Held, Stands}
-use Rattle.capture_packets.specs.declared.end.End.{End}
-use Rattle.capture_packets.specs.declared.end.End.TheVariants.{Limit, Memory, ReadFault, Refused}
+use Rattle.text_lines.specs.declared.reading.End.TheVariants.{Limit, Memory, ReadFault, Refused}
 use Rattle.capture_packets.specs.declared.fault.CaptureFault.{CaptureFault}
 use Rattle.capture_packets.specs.declared.fault.CaptureFault.TheVariants as fault
 use Rattle.capture_packets.specs.declared.head.Head.{Head}
@@ -15,7 +14,7 @@ use Rattle.capture_packets.specs.declared.state.Layout.TheVariants.{Records, Blo
 use Rattle.capture_packets.specs.declared.state.Parts.{Parts}
 use Rattle.capture_packets.specs.Packets.{Context, context}
 use Rattle.capture_packets.specs.Captures.{Step, begun, blank, blocks_head, capture, done, head_in, opened, opened_by, opened_with, refused_at, step, told, told_by}
-use Rattle.capture_packets.specs.Reading.{HasPackets, IsTold, Opens, TellsOn}
+use Rattle.capture_packets.specs.Reading.{FileEnd, HasPackets, IsTold, Opens, TellsOn}
 use Rattle.capture_packets.specs.inside.Taking.{BeginsBlocks, BeginsRecords, ReadsHead, begun_by}
 use Rattle.capture_packets.proofs.Opened.{in-blocks, in-records}
 use Rattle.capture_packets.proofs.WholeFronts.{first-long, step-on}
@@ -101,9 +100,9 @@ opened-blocks : (file : List ℕ) (h : Head) (r : Result Step CaptureFault) → 
 opened-blocks file h r is blocks st =
     ap (opened_with file) is ∙ ap (λ (k : Head). opened_with file (Ok k)) blocks ∙ st
 
-pub opens-head : (limit : ℕ) (text given file : List ℕ) (new : Held) (left : Option (List ℕ)) (e : End)
+pub opens-head : (limit : ℕ) (text given file : List ℕ) (new : Held) (left : Option (List ℕ)) (e : FileEnd)
     → ReadsHead limit text given file new left (Err e) → Opens limit text given file left (Err e)
-opens-head limit text given file new left (Refused place why) r =
+opens-head limit text given file new left (Refused (place, why)) r =
     (r.0, ap (opened_with file) r.1, r.2)
 opens-head limit text given file new left Limit r = (r.0, ap (opened_with file) r.1)
 opens-head limit text given file new left ReadFault (more, less, taken) = (more, taken, inl less)
@@ -130,9 +129,9 @@ opens-records limit text given file h parts reader left visible is records start
           (λ rest. on rest ∙ ap (λ (k : Context). Ok (record { packet = None; known = k; rest = rest })) (sym known)),
     )
 
-pub opens-passed : (limit : ℕ) (text given file : List ℕ) (new : Held) (left : Option (List ℕ)) (e : End)
+pub opens-passed : (limit : ℕ) (text given file : List ℕ) (new : Held) (left : Option (List ℕ)) (e : FileEnd)
     → BeginsRecords limit text given file new left (Err e) → Opens limit text given file left (Err e)
-opens-passed limit text given file new left (Refused place why) b = absurd b
+opens-passed limit text given file new left (Refused (place, why)) b = absurd b
 opens-passed limit text given file new left Limit b = absurd b
 opens-passed limit text given file new left ReadFault (more, less, taken) = (more, taken, inl less)
 opens-passed limit text given file new left Memory b = tt
@@ -159,10 +158,10 @@ opens-blocks limit text given file h reader left visible is blocks start (all, s
     )
 
 pub opens-section : (limit : ℕ) (text given file : List ℕ) (h : Head) (now : Context) (new : Held)
-    (left : Option (List ℕ)) (e : End) → head_in (take 24 file) ≡ Ok h → h.layout ≡ Blocks
+    (left : Option (List ℕ)) (e : FileEnd) → head_in (take 24 file) ≡ Ok h → h.layout ≡ Blocks
     → BeginsBlocks limit text given file now new left (Err e)
     → Opens limit text given file left (Err e)
-opens-section limit text given file h now new left (Refused place why) is blocks b =
+opens-section limit text given file h now new left (Refused (place, why)) is blocks b =
     (b.0, opened-blocks file h (Err why) is (in-blocks (take 24 file) h is blocks).is b.1, b.2)
 opens-section limit text given file h now new left Limit is blocks b =
     (b.0, opened-blocks file h (Err fault.Cut) is (in-blocks (take 24 file) h is blocks).is b.1)
@@ -176,7 +175,7 @@ opens-section limit text given file h now new left Memory is blocks b = tt
 -- ---- either way
 
 pub opens-by-records : (limit : ℕ) (text given file : List ℕ) (h : Head) (parts : Parts) (reader : PacketReader)
-    (left : Option (List ℕ)) (r : Result (Unit {0}) End) → take limit text ≡ given ++ file
+    (left : Option (List ℕ)) (r : Result (Unit {0}) FileEnd) → take limit text ≡ given ++ file
     → head_in (take 24 file) ≡ Ok h → h.layout ≡ Records parts → reader.start ≡ length given
     → context reader.state ≡ begun h → BeginsRecords limit text given file reader.supply left r
     → Opens limit text given file left (begun_by reader r)
@@ -186,7 +185,7 @@ opens-by-records limit text given file h parts reader left (Err e) visible is re
     opens-passed limit text given file reader.supply left e b
 
 pub opens-by-blocks : (limit : ℕ) (text given file : List ℕ) (h : Head) (reader : PacketReader)
-    (left : Option (List ℕ)) (r : Result (Unit {0}) End) → take limit text ≡ given ++ file
+    (left : Option (List ℕ)) (r : Result (Unit {0}) FileEnd) → take limit text ≡ given ++ file
     → head_in (take 24 file) ≡ Ok h → h.layout ≡ Blocks → reader.start ≡ length given
     → BeginsBlocks limit text given file (context reader.state) reader.supply left r
     → Opens limit text given file left (begun_by reader r)

@@ -8,9 +8,10 @@ use Rattle.lan_base.specs.declared.source.ReadEnd.{ReadEnd}
 use Rattle.lan_base.specs.declared.source.ReadEnd.TheVariants as readings
 use Rattle.capture_file.specs.declared.order.Order.{Order}
 use Rattle.octet_supply.specs.Supplying.{Held, Stands}
+use Rattle.capture_packets.specs.Reading.{FileEnd}
 use Rattle.capture_packets.specs.declared.block.Block.{Block}
-use Rattle.capture_packets.specs.declared.end.End.{End}
-use Rattle.capture_packets.specs.declared.end.End.TheVariants.{Limit, Memory, ReadFault, Refused}
+use Rattle.text_lines.specs.Ends.{end_of}
+use Rattle.text_lines.specs.declared.reading.End.TheVariants.{Limit, Memory, ReadFault, Refused}
 use Rattle.capture_packets.specs.declared.fault.CaptureFault.{CaptureFault}
 use Rattle.capture_packets.specs.declared.fault.CaptureFault.TheVariants as fault
 use Rattle.capture_packets.specs.declared.packet.Packet.{Packet}
@@ -21,7 +22,7 @@ use Rattle.capture_packets.specs.declared.state.Progress.TheVariants as progress
 use Rattle.capture_packets.specs.Numbers.{part}
 use Rattle.capture_packets.specs.Packets.{Context}
 use Rattle.capture_packets.specs.Captures.{Step, closing, done, frame_of, is_closed, size, step, step_by}
-use Rattle.capture_packets.specs.inside.Taking.{Closes, EndsWith, Finishes, StepsOn, TakesBlock, end_of}
+use Rattle.capture_packets.specs.inside.Taking.{Closes, EndsWith, Finishes, StepsOn, TakesBlock}
 
 -- ---- what a step is
 
@@ -114,7 +115,7 @@ pub steps-short : (limit : ℕ) (text given behind : List ℕ) (known now : Cont
     (packet : Packet) (new : Held) (left : Option (List ℕ)) → place ≡ at → behind ≢ []
     → frame_of known behind ≡ Ok block → length behind < size known.layout block
     → EndsWith limit text (given ++ behind)
-    → StepsOn limit text given behind known at packet now new left (Err (Refused place fault.Cut))
+    → StepsOn limit text given behind known at packet now new left (Err (Refused (place, fault.Cut)))
 steps-short limit text given behind known now at place block packet new left here some fr less e =
     (here, some, step-cut known behind block fr less, (λ _. e.within))
 
@@ -166,7 +167,7 @@ pub steps-close : (limit : ℕ) (text given behind : List ℕ) (known now : Cont
     (packet : Packet) (old after : List ℕ) (new : Held) (left : Option (List ℕ)) (why : CaptureFault)
     → place ≡ at → behind ≢ [] → IsWhole known behind block old
     → Closes known.layout known.order block old after (Err why)
-    → StepsOn limit text given behind known at packet now new left (Err (Refused place why))
+    → StepsOn limit text given behind known at packet now new left (Err (Refused (place, why)))
 steps-close limit text given behind known now at place block packet old after new left fault.Cut here some w c =
     absurd (let l = old-count known behind block old w in omega (arith, l, c))
 steps-close limit text given behind known now at place block packet old after new left fault.Block here some w c = (
@@ -206,7 +207,7 @@ by-done known now behind block kept r k is =
     ∙ is
 
 pub steps-finish : (limit : ℕ) (text given behind : List ℕ) (known now : Context) (at place : ℕ) (block : Block)
-    (packet : Packet) (kept : List ℕ) (new : Held) (left : Option (List ℕ)) (r : Result Progress End)
+    (packet : Packet) (kept : List ℕ) (new : Held) (left : Option (List ℕ)) (r : Result Progress FileEnd)
     → place ≡ at → behind ≢ [] → 8 ≤ block.before → size known.layout block ≤ length behind
     → Stands limit text (given ++ take (size known.layout block) behind) new left
     → IsClosed known behind block kept → Finishes known block.what kept place packet now r
@@ -226,7 +227,7 @@ steps-finish limit text given behind known now at place block packet kept new le
   stands = stands;
   step_is = by-done known now behind block kept _ k (f (drop (size known.layout block) behind));
 }
-steps-finish limit text given behind known now at place block packet kept new left (Err (Refused there why)) here some least whole stands k f = (
+steps-finish limit text given behind known now at place block packet kept new left (Err (Refused (there, why))) here some least whole stands k f = (
   f.0 ∙ here,
   some,
   by-done known now behind block kept (Err why) k (f.2 (drop (size known.layout block) behind)),

@@ -2,8 +2,7 @@
 use Rattle.std.proofs.Common.{◌≡◌, ℕ, ◌+◌, ◌-◌, ◌≤◌, true, false, List, [], ◌∷◌, ◌++◌, drop, length, take, Option, Some, Ok, Err, refl, sym, ap, ◌∙◌, subst, append_assoc, length-append, length-drop, arith, inl, inr}
 use Rattle.std.proofs.lemmas.List.{length-take-le, take-append-drop}
 use Rattle.octet_supply.specs.Supplying.{Held}
-use Rattle.capture_packets.specs.declared.end.End.{End}
-use Rattle.capture_packets.specs.declared.end.End.TheVariants.{Limit, Memory, ReadFault, Refused}
+use Rattle.text_lines.specs.declared.reading.End.TheVariants.{Limit, Memory, ReadFault, Refused}
 use Rattle.capture_packets.specs.declared.fault.CaptureFault.TheVariants as fault
 use Rattle.capture_packets.specs.declared.packet.Packet.{Packet}
 use Rattle.capture_packets.specs.declared.reader.PacketReader.{PacketReader}
@@ -11,7 +10,7 @@ use Rattle.capture_packets.specs.declared.state.Progress.{Progress}
 use Rattle.capture_packets.specs.declared.state.Progress.TheVariants as progress
 use Rattle.capture_packets.specs.Packets.{Context, Seen, context}
 use Rattle.capture_packets.specs.Captures.{Told, refused_at, step, with_first}
-use Rattle.capture_packets.specs.Reading.{HasRead, IsTold, IsUnfinished, ReadsNext, TellsOn}
+use Rattle.capture_packets.specs.Reading.{FileEnd, HasRead, IsTold, IsUnfinished, ReadsNext, TellsOn}
 use Rattle.capture_packets.specs.inside.Taking.{IsStepped, StepsOn, packet_in}
 use Rattle.capture_packets.proofs.Told.{behind-some, told-end, told-refused, told-step}
 use Rattle.capture_packets.proofs.WholeFronts.{read-more, with_more}
@@ -83,12 +82,12 @@ next-end limit text reader now left left_then t packets packet b (none, within, 
     (told-end (context reader.state) (length b.given - reader.start) b.behind t b.tells none, within, end)
 
 pub next-err : (limit : ℕ) (text : List ℕ) (reader now : PacketReader) (left left_then : Option (List ℕ)) (t : Told)
-    (packets : List Seen) (packet other : Packet) (known : Context) (new : Held) (e : End)
+    (packets : List Seen) (packet other : Packet) (known : Context) (new : Held) (e : FileEnd)
     → (b : TellsOn limit text reader left packets t)
     → now.start ≡ reader.start
     → StepsOn limit text b.given b.behind (context reader.state) (length b.given - reader.start) other known new left_then (Err e)
     → ReadsNext limit text packets t packet now left_then (Err e)
-next-err limit text reader now left left_then t packets packet other known new (Refused place why) b same s = (
+next-err limit text reader now left left_then t packets packet other known new (Refused (place, why)) b same s = (
   told-refused (context reader.state) (length b.given - reader.start) b.behind t why b.tells s.1 s.2
       ∙ ap (λ (k : ℕ). refused_at k why) (sym s.0),
   s.3,

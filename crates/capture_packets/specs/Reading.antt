@@ -2,8 +2,8 @@
 use Rattle.std.specs.Prelude.{⊤, ◌≡◌, ◌⊎◌, ℕ, ◌-◌, ◌<◌, ◌≤◌, Bool, true, false, List, [], ◌∷◌, ◌++◌, length, take, Option, Some, Result, Ok, Err}
 use Rattle.octet_supply.specs.Supplying.{IsTaken, Stands}
 use Rattle.capture_packets.specs.declared.block.Block.{Block}
-use Rattle.capture_packets.specs.declared.end.End.{End}
-use Rattle.capture_packets.specs.declared.end.End.TheVariants.{Limit, Memory, ReadFault, Refused}
+use Rattle.text_lines.specs.declared.reading.End.{End}
+use Rattle.text_lines.specs.declared.reading.End.TheVariants.{Limit, Memory, ReadFault, Refused}
 use Rattle.capture_packets.specs.declared.fault.CaptureFault.{CaptureFault}
 use Rattle.capture_packets.specs.declared.fault.CaptureFault.TheVariants.{Cut}
 use Rattle.capture_packets.specs.declared.packet.Packet.{Packet}
@@ -51,6 +51,10 @@ pub record TellsOn (limit : ℕ) (text : List ℕ) (reader : PacketReader) (left
 
 -- ---- how reading ends
 
+-- why a file is not read to its end
+abbrev pub FileEnd : Type 0
+FileEnd = End (ℕ × CaptureFault)
+
 -- nothing more is there but a front of a record or a block, or nothing
 abbrev pub IsUnfinished : Told → Type 0
 IsUnfinished t = (t ≡ no_more) ⊎ ((at : ℕ) × (t ≡ refused_at at Cut))
@@ -81,13 +85,13 @@ RefusedAt limit text at why t = (t ≡ refused_at at why) × (why ≡ Cut → le
 
 -- what reading a packet did, where a reader had read these and went on with what tells this
 abbrev pub ReadsNext : ℕ → List ℕ → List Seen → Told → Packet → PacketReader → Option (List ℕ)
-    → Result Bool End → Type 0
+    → Result Bool FileEnd → Type 0
 ReadsNext limit text packets t packet reader left (Ok true) =
     (later : Told) × (t ≡ with_first (Some (seen packet)) later)
     × TellsOn limit text reader left (packets ++ seen packet ∷ []) later
 ReadsNext limit text packets t packet reader left (Ok false) =
     (t ≡ no_more) × (length text ≤ limit) × (left ≡ Some [])
-ReadsNext limit text packets t packet reader left (Err (Refused at why)) =
+ReadsNext limit text packets t packet reader left (Err (Refused (at, why))) =
     RefusedAt limit text at why t
 ReadsNext limit text packets t packet reader left (Err Limit) = (limit < length text) × IsUnfinished t
 ReadsNext limit text packets t packet reader left (Err ReadFault) =
@@ -101,12 +105,12 @@ IsWithinHead file more =
 
 -- What reading the head of a file did, behind what was given out before. The head, or the first section,
 -- is whole and in order exactly where a reader is answered.
-abbrev pub Opens : ℕ → List ℕ → List ℕ → List ℕ → Option (List ℕ) → Result PacketReader End
+abbrev pub Opens : ℕ → List ℕ → List ℕ → List ℕ → Option (List ℕ) → Result PacketReader FileEnd
     → Type 0
 Opens limit text given file left (Ok reader) =
     (head : Step) × (opened file ≡ Ok head) × (reader.start ≡ length given)
     × TellsOn limit text reader left [] (capture file)
-Opens limit text given file left (Err (Refused at why)) =
+Opens limit text given file left (Err (Refused (at, why))) =
     (at ≡ 0) × (opened file ≡ Err why) × (why ≡ Cut → length text ≤ limit)
 Opens limit text given file left (Err Limit) =
     (limit < length text) × (opened file ≡ Err Cut)

@@ -1,5 +1,6 @@
 //! Why a file is not read further.
 
+use text_lines::End;
 use thiserror::Error;
 
 /// Why a file of captured packets is not read further: the first of these that applies.
@@ -24,3 +25,7 @@ pub enum CaptureFault {
     #[error("a packet has no interface")]
     Interface,
 }
+
+/// Why a file is not read to its end. Its head is refused, or the record or block that begins at this octet
+/// of it.
+pub type FileEnd = End<(u32, CaptureFault)>;

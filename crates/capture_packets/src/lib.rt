@@ -3,7 +3,6 @@
 #![tactic(auto)]
 
 mod block;
-mod end;
 mod fault;
 mod head;
 mod laws;
@@ -16,8 +15,7 @@ mod record;
 mod state;
 mod taking;
 
-pub use end::End;
-pub use fault::CaptureFault;
+pub use fault::{CaptureFault, FileEnd};
 pub use head::begins_file;
 pub use laws::{law_front, law_one_list};
 pub use packet::{Packet, PacketHead};

@@ -3,7 +3,7 @@
 ghost use Rattle.std.specs.Prelude.{◌≡◌, ◌≢◌, ◌<◌, ◌≤◌, ◌+◌, ◌++◌, ◌-◌, ◌^◌, ℕ, List, Err, IfOk, IfSome, None, Ok, OnOk, Some, if◌then◌else◌, length, take, true};
 ghost use Rattle.lan_base.specs.Faults.{Rose};
 ghost use Rattle.octet_supply.specs.Supplying.{Stands};
-ghost use Rattle.capture_packets.specs.declared.end.End.TheVariants as ends;
+ghost use Rattle.text_lines.specs.declared.reading.End.TheVariants as ends;
 ghost use Rattle.capture_packets.specs.declared.state.Progress.TheVariants as progress;
 ghost use Rattle.capture_packets.specs.Packets.{Seen, context};
 ghost use Rattle.capture_packets.specs.Captures.{Told, begun, blank, blocks_head, head_in};
@@ -11,8 +11,7 @@ ghost use Rattle.capture_packets.specs.Reading.{Opens, ReadsNext, TellsOn};
 ghost use Rattle.capture_packets.specs.inside.Taking.{BeginsBlocks, BeginsRecords, Frames, ReadsHead, StepsOn, begun_by, judged, judged_head, no_packet};
 
 use crate::block::Block;
-use crate::end::End;
-use crate::fault::CaptureFault;
+use crate::fault::{CaptureFault, FileEnd};
 use crate::head::{Head, read_head};
 use crate::packet::Packet;
 use crate::state::{Layout, Progress, State, closing, most_fields, size};
@@ -21,6 +20,7 @@ use capture_file::HEAD_LEN;
 use lan_base::Source;
 use octet_supply::Supply;
 use std::alloc::Global;
+use text_lines::End;
 
 /// Reads the packets of a file, whose head was read.
 #[derive(Drop)]
@@ -38,7 +38,7 @@ impl PacketReader {
         alloc: Global,
         supply: Supply,
         source: &mut S,
-    ) -> Result<PacketReader, End>
+    ) -> Result<PacketReader, FileEnd>
         ensures opens { (limit : ℕ) (text given file : List ℕ)
             → Stands limit text given supply (S.left source.old)
             → take limit text ≡ given ++ file
@@ -59,7 +59,7 @@ impl PacketReader {
 
     /// Reads the next packet in place of the one that is there, if there is one. Behind an error
     /// nothing is said of the packet, nor of a further call.
-    pub fn read<S: Source>(&mut self, source: &mut S, packet: &mut Packet) -> Result<bool, End>
+    pub fn read<S: Source>(&mut self, source: &mut S, packet: &mut Packet) -> Result<bool, FileEnd>
         ensures reads { (limit : ℕ) (text : List ℕ) (packets : List Seen) (t : Told)
             → TellsOn limit text self.old (S.left source.old) packets t
             → ReadsNext limit text packets t packet.new self.new (S.left source.new) result }
@@ -82,7 +82,7 @@ impl PacketReader {
     }
 
     /// Reads the next record or block.
-    fn step<S: Source>(&mut self, source: &mut S, packet: &mut Packet) -> Result<Progress, End>
+    fn step<S: Source>(&mut self, source: &mut S, packet: &mut Packet) -> Result<Progress, FileEnd>
         ensures steps { (limit : ℕ) (text given behind : List ℕ)
             → Stands limit text given self.old.supply (S.left source.old)
             → take limit text ≡ given ++ behind
@@ -114,16 +114,16 @@ impl PacketReader {
         let taken = self.supply.given().saturating_sub(given);
         if u64::from(taken) < size(self.state.layout, &block) {
             let why = CaptureFault::Cut;
-            return Err(End::Refused { at, why });
+            return Err(End::Refused((at, why)));
         }
         if let Err(why) = self.state.close(&block, &mut packet.octets) {
-            return Err(End::Refused { at, why });
+            return Err(End::Refused((at, why)));
         }
         self.state.finish(at, block.what, packet)
     }
 
     /// The record or the block that begins at this octet, by its fields, if there is one.
-    fn frame<S: Source>(&mut self, at: u32, source: &mut S) -> Result<Option<Block>, End>
+    fn frame<S: Source>(&mut self, at: u32, source: &mut S) -> Result<Option<Block>, FileEnd>
         ensures frames { (limit : ℕ) (text given behind : List ℕ)
             → Stands limit text given self.old.supply (S.left source.old)
             → take limit text ≡ given ++ behind
@@ -148,7 +148,7 @@ impl PacketReader {
     }
 
     /// What the file is, by its head.
-    fn head<S: Source>(&mut self, source: &mut S) -> Result<Head, End>
+    fn head<S: Source>(&mut self, source: &mut S) -> Result<Head, FileEnd>
         ensures reads { (limit : ℕ) (text given file : List ℕ)
             → Stands limit text given self.old.supply (S.left source.old)
             → take limit text ≡ given ++ file
@@ -165,7 +165,7 @@ impl PacketReader {
     }
 
     /// Goes on behind the head of a classic file, or behind the first section.
-    fn begin<S: Source>(&mut self, alloc: Global, head: Head, source: &mut S) -> Result<(), End>
+    fn begin<S: Source>(&mut self, alloc: Global, head: Head, source: &mut S) -> Result<(), FileEnd>
         ensures begins { (limit : ℕ) (text given file : List ℕ)
             → Stands limit text given self.old.supply (S.left source.old)
             → take limit text ≡ given ++ file
@@ -183,7 +183,7 @@ impl PacketReader {
     }
 
     /// Passes over the head of a classic file.
-    fn begin_records<S: Source>(&mut self, head: Head, source: &mut S) -> Result<(), End>
+    fn begin_records<S: Source>(&mut self, head: Head, source: &mut S) -> Result<(), FileEnd>
         ensures begins { (limit : ℕ) (text given file : List ℕ)
             → Stands limit text given self.old.supply (S.left source.old)
             → take limit text ≡ given ++ file
@@ -202,7 +202,7 @@ impl PacketReader {
     }
 
     /// Reads the first section.
-    fn begin_blocks<S: Source>(&mut self, alloc: Global, source: &mut S) -> Result<(), End>
+    fn begin_blocks<S: Source>(&mut self, alloc: Global, source: &mut S) -> Result<(), FileEnd>
         ensures begins { (limit : ℕ) (text given file : List ℕ)
             → Stands limit text given self.old.supply (S.left source.old)
             → take limit text ≡ given ++ file
@@ -222,43 +222,44 @@ impl PacketReader {
 }
 
 /// The first block is a section, and has no packet.
-fn no_packet(progress: Progress) -> Result<(), End>
+fn no_packet(progress: Progress) -> Result<(), FileEnd>
     ensures { result ≡ no_packet progress }
 {
     match progress {
         Progress::Other => Ok(()),
-        Progress::Packet | Progress::End => Err(End::Refused {
-            at: 0,
-            why: CaptureFault::Magic,
-        }),
+        Progress::Packet | Progress::End => Err(End::Refused((0, CaptureFault::Magic))),
     }
 }
 
 /// What a file is, where the limit may cut what follows.
-fn judged_head(is_past: bool, head: Result<Head, CaptureFault>) -> Result<Head, End>
+fn judged_head(is_past: bool, head: Result<Head, CaptureFault>) -> Result<Head, FileEnd>
     ensures { result ≡ judged_head is_past head }
 {
     match head {
         Ok(head) => Ok(head),
         Err(CaptureFault::Cut) if is_past => Err(End::Limit),
-        Err(why) => Err(End::Refused { at: 0, why }),
+        Err(why) => Err(End::Refused((0, why))),
     }
 }
 
 /// Nothing more is there: the end, or what the limit cuts.
-fn no_block(is_past: bool) -> Result<Option<Block>, End>
+fn no_block(is_past: bool) -> Result<Option<Block>, FileEnd>
     ensures { result ≡ (if is_past then Err ends.Limit else Ok None) }
 {
     if is_past { Err(End::Limit) } else { Ok(None) }
 }
 
 /// The fields of a record or a block that begins at this octet, where the limit may cut what follows.
-fn judged(at: u32, is_past: bool, frame: Result<Block, CaptureFault>) -> Result<Option<Block>, End>
+fn judged(
+    at: u32,
+    is_past: bool,
+    frame: Result<Block, CaptureFault>,
+) -> Result<Option<Block>, FileEnd>
     ensures { result ≡ judged at is_past frame }
 {
     match frame {
         Ok(block) => Ok(Some(block)),
         Err(CaptureFault::Cut) if is_past => Err(End::Limit),
-        Err(why) => Err(End::Refused { at, why }),
+        Err(why) => Err(End::Refused((at, why))),
     }
 }

@@ -3,19 +3,19 @@
 ghost use Rattle.std.specs.Prelude.{◌≡◌, ◌<◌, Err, ◌≤◌, IfOk, length};
 ghost use Rattle.capture_packets.specs.declared.fault.CaptureFault.TheVariants as faults;
 ghost use Rattle.capture_packets.specs.Packets.{context};
-ghost use Rattle.capture_packets.specs.declared.end.End.TheVariants as ends;
+ghost use Rattle.text_lines.specs.declared.reading.End.TheVariants as ends;
 ghost use Rattle.capture_packets.specs.Captures.{blank, closing, framed, is_closed, most_fields, order_in, size};
 ghost use Rattle.capture_packets.specs.inside.Taking.{Adds, Closes, Finishes};
 
 use crate::block::{Block, What, read_block};
-use crate::end::End;
-use crate::fault::CaptureFault;
+use crate::fault::{CaptureFault, FileEnd};
 use crate::numbers::number;
 use crate::options::read_ticks;
 use crate::packet::Packet;
 use crate::record::read_record;
 use capture_file::{HEADER_LEN, Order};
 use std::alloc::Global;
+use text_lines::End;
 
 /// Of how many nanoseconds a part of a second is in a classic file.
 #[derive(Clone, Copy, Debug, PartialEq, Eq)]
@@ -111,7 +111,7 @@ impl State {
 
     /// Does what a whole block does that begins at this octet, of which the packet has the octets that
     /// are kept.
-    pub fn finish(&mut self, at: u32, what: What, packet: &mut Packet) -> Result<Progress, End>
+    pub fn finish(&mut self, at: u32, what: What, packet: &mut Packet) -> Result<Progress, FileEnd>
         ensures finishes { Finishes (context self.old) what packet.old.octets.items at packet.new
             (context self.new) result }
         ensures octets { packet.new.octets ≡ packet.old.octets }
@@ -142,14 +142,14 @@ impl State {
         is_ethernet: bool,
         snap: u32,
         options: &[u8],
-    ) -> Result<Progress, End>
+    ) -> Result<Progress, FileEnd>
         ensures adds { Adds (context self.old) is_ethernet snap options.now at (context self.new)
             result }
         ensures failed { result ≡ Err ends.ReadFault → ⊥ }
     {
         let Some(ticks) = read_ticks(self.order, options) else {
             let why = CaptureFault::Block;
-            return Err(End::Refused { at, why });
+            return Err(End::Refused((at, why)));
         };
         let interface = Interface {
             is_ethernet,

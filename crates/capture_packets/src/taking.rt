@@ -3,14 +3,15 @@
 ghost use Rattle.std.specs.Prelude.{◌≡◌, ◌≤◌, ◌+◌, ◌++◌, ℕ, List, Err, OnOk, take};
 ghost use Rattle.lan_base.specs.Faults.{Rose};
 ghost use Rattle.lan_base.specs.declared.source.ReadEnd.TheVariants as readings;
-ghost use Rattle.capture_packets.specs.declared.end.End.TheVariants as ends;
+ghost use Rattle.text_lines.specs.declared.reading.End.TheVariants as ends;
 ghost use Rattle.octet_supply.specs.Supplying.{Stands};
 ghost use Rattle.capture_packets.specs.inside.Taking.{Looks, TakesBlock};
 
 use crate::block::Block;
-use crate::end::End;
+use crate::fault::FileEnd;
 use lan_base::{ReadEnd, Source};
 use octet_supply::Supply;
+use text_lines::End;
 
 /// Takes a record or a block with so many octets that close it: those that are kept and those that
 /// close it, or those of them that are left at the end of the source, in place of what the vector has.
@@ -38,7 +39,7 @@ pub fn take_block<S: Source>(
 }
 
 /// Looks at so many octets, and answers whether the limit cuts those that are held.
-pub fn look<S: Source>(supply: &mut Supply, count: usize, source: &mut S) -> Result<bool, End>
+pub fn look<S: Source>(supply: &mut Supply, count: usize, source: &mut S) -> Result<bool, FileEnd>
     requires { count ≤ 4096 }
     ensures looks { (limit : ℕ) (text given : List ℕ)
         → Stands limit text given supply.old (S.left source.old)

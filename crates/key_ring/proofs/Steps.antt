@@ -17,11 +17,12 @@ use Rattle.audit_text.specs.declared.line.KeyLine.{KeyLine}
 use Rattle.audit_text.specs.declared.parting.Part.TheVariants as parts
 use Rattle.audit_text.specs.Parting.{IsLast, IsLine, IsLong, IsUnparted, Parts, begins, capture_behind, key_text}
 use Rattle.audit_text.specs.Reading.{key_line_in}
-use Rattle.key_ring.specs.declared.end.RingEnd.{RingEnd}
-use Rattle.key_ring.specs.declared.end.RingEnd.TheVariants as ends
+use Rattle.key_ring.specs.Reading.{RingEnd}
+use Rattle.text_lines.specs.declared.reading.End.TheVariants as ends
 use Rattle.key_ring.specs.Rings.{Ring, no_ring, ring_by, ring_from, ring_in}
 use Rattle.key_ring.specs.Reading.{IsUnfinished, ReadsRing, file_in}
-use Rattle.key_ring.specs.inside.Steps.{Adds, AddsLine, end_of}
+use Rattle.text_lines.specs.Ends.{end_of}
+use Rattle.key_ring.specs.inside.Steps.{Adds, AddsLine}
 use Rattle.key_ring.proofs.Lines.{BeginsLong, HasNoFeed, begins-long, empty-line, line-alone, line-first, lines-append, open-behind, ring-append, too-long}
 use Rattle.key_ring.proofs.KeyFronts.{IsKeyFront, front-keys, front-more, front-none, goes-on, keys-before, keys-in-line, none-here, rest-is, unparted-none}
 
@@ -323,13 +324,13 @@ pub at-refused : (text : List ℕ) (number next : ℕ) (ring then_ring : Ring) (
     → Parts most_input text h.given (ahead text number ring supply left h) line new later (Ok (parts.Line end))
     → next ≡ number + 1 → AddsLine next line ring then_ring (Err e)
     → ReadsRing text later (Err e)
-at-refused text number next ring then_ring supply new left later line line_ends.Feed (ends.Line n why) h l is (at, refused, same) =
+at-refused text number next ring then_ring supply new left later line line_ends.Feed (ends.Refused (n, why)) h l is (at, refused, same) =
     line-refused text number next ring supply new left later line why h l is refused
     ∙ ap (λ (m : ℕ). Err (record { line = m; why = why })) (sym at)
-at-refused text number next ring then_ring supply new left later line line_ends.Most (ends.Line n why) h l is (at, refused, same) =
+at-refused text number next ring then_ring supply new left later line line_ends.Most (ends.Refused (n, why)) h l is (at, refused, same) =
     long-refused text number next ring supply left line why h l is refused
     ∙ ap (λ (m : ℕ). Err (record { line = m; why = why })) (sym at)
-at-refused text number next ring then_ring supply new left later line line_ends.Source (ends.Line n why) h l is (at, refused, same) =
+at-refused text number next ring then_ring supply new left later line line_ends.Source (ends.Refused (n, why)) h l is (at, refused, same) =
     last-said text number next ring supply left later line h l is ∙ last-refused next line ring why refused
     ∙ ap (λ (m : ℕ). Err (record { line = m; why = why })) (sym at)
 at-refused text number next ring then_ring supply new left later line end ends.Limit h l is adds = absurd adds

@@ -4,8 +4,9 @@ use Rattle.lan_base.specs.Ranges.{most_input}
 use Rattle.octet_supply.specs.Supplying.{Held, IsTaken, Stands}
 use Rattle.text_lines.specs.Texts.{lines_of}
 use Rattle.audit_text.specs.Parting.{IsUnparted, capture_behind, starts_behind}
-use Rattle.key_ring.specs.declared.end.RingEnd.{RingEnd}
-use Rattle.key_ring.specs.declared.end.RingEnd.TheVariants.{Limit, Line, Memory, ReadFault}
+use Rattle.trace_text.specs.declared.fault.TextFault.{TextFault}
+use Rattle.text_lines.specs.declared.reading.End.{End}
+use Rattle.text_lines.specs.declared.reading.End.TheVariants.{Limit, Memory, ReadFault, Refused}
 use Rattle.key_ring.specs.Rings.{Ring, no_ring, ring_from, ring_in}
 
 -- the capture in what is within the limit
@@ -29,6 +30,10 @@ pub record IsUnfinished (octets : List ℕ) : Type 0 where
   pub read : ring_from 1 (lines_of front) no_ring ≡ Ok ring
   pub unparted : IsUnparted more
 
+-- why a key text is not read to its end
+abbrev pub RingEnd : Type 0
+RingEnd = End (ℕ × TextFault)
+
 -- What reading a key text did. It is read whole, with a capture behind it or without one; or its first
 -- line that is refused is told; or it did not end before an octet past the limit was taken, or the source
 -- failed.
@@ -37,7 +42,7 @@ ReadsRing text left (Ok (ring, Some supply)) =
     (ring_in text ≡ Ok ring) × (file_in text ≢ []) × IsBeforeCapture text supply left
 ReadsRing text left (Ok (ring, None)) =
     (ring_in text ≡ Ok ring) × (file_in text ≡ []) × (length text ≤ most_input) × (left ≡ Some [])
-ReadsRing text left (Err (Line line why)) = ring_in text ≡ Err (record { line = line; why = why })
+ReadsRing text left (Err (Refused (line, why))) = ring_in text ≡ Err (record { line = line; why = why })
 ReadsRing text left (Err Limit) = (most_input < length text) × IsUnfinished (take most_input text)
 ReadsRing text left (Err ReadFault) =
     (taken : List ℕ) × IsTaken most_input text taken left × IsUnfinished taken

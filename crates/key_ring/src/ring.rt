@@ -5,12 +5,11 @@ ghost use Rattle.lan_base.specs.Faults.{Rose};
 ghost use Rattle.lan_base.specs.Ranges.{most_input};
 ghost use Rattle.octet_supply.specs.Supplying.{Stands, most_given};
 ghost use Rattle.audit_text.specs.InForm.{IsInFormKey};
-ghost use Rattle.key_ring.specs.declared.end.RingEnd.TheVariants as ends;
+ghost use Rattle.text_lines.specs.declared.reading.End.TheVariants as ends;
 ghost use Rattle.key_ring.specs.Rings.{AreKeyed, no_ring, secret_of, whose_of, with_line};
 ghost use Rattle.key_ring.specs.Reading.{ReadsRing};
 ghost use Rattle.key_ring.specs.inside.Steps.{AddsLine, answered};
 
-use crate::end::RingEnd;
 use aes_block::Secret;
 use audit_text::{KeyLine, Part, next_part, read_key_line};
 use known_keys::Sender;
@@ -19,7 +18,11 @@ use octet_supply::{LineEnd, Supply};
 use packet_verdicts::Groups;
 use std::alloc::Global;
 use std::marker::Model;
-use trace_text::LineError;
+use text_lines::End;
+use trace_text::{LineError, TextFault};
+
+/// Why a key text is not read to its end. The line with this number, from 1, is refused.
+pub type RingEnd = End<(u32, TextFault)>;
 
 /// A key that a line of the key text sets by hand.
 #[derive(Clone, Copy, Debug, PartialEq, Eq)]
@@ -122,8 +125,8 @@ impl KeyRing {
         match read_key_line(alloc, text) {
             Ok(Some(line)) => self.add(alloc, number, line),
             Ok(None) => Ok(()),
-            Err(LineError::Refused(why)) => Err(RingEnd::Line { line: number, why }),
-            Err(LineError::Memory) => Err(RingEnd::Memory),
+            Err(LineError::Refused(why)) => Err(End::Refused((number, why))),
+            Err(LineError::Memory) => Err(End::Memory),
         }
     }
 
@@ -141,7 +144,7 @@ impl KeyRing {
                     .add(alloc, secret_of(cak.as_slice()), ckn.as_slice())
                 {
                     Ok(()) => Ok(()),
-                    Err(_) => Err(RingEnd::Memory),
+                    Err(_) => Err(End::Memory),
                 }
             }
             KeyLine::Sak { sender, an, sak } => {

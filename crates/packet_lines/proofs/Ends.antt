@@ -9,12 +9,15 @@ use Rattle.capture_file.specs.Describing.{described}
 use Rattle.lan_base.specs.Ranges.{most_input}
 use Rattle.capture_file.specs.Pcap.{kept_read}
 use Rattle.capture_file.specs.Records.{IsFileOf}
-use Rattle.packet_lines.specs.declared.end.End.{End}
-use Rattle.packet_lines.specs.declared.end.End.TheVariants.{Refused, Limit, ReadFault, WriteFault, Memory}
+use Rattle.text_lines.specs.declared.reading.End.{End}
+use Rattle.text_lines.specs.declared.reading.End.TheVariants.{Refused, Limit, ReadFault, Memory}
+use Rattle.text_lines.specs.declared.unfinished.Unfinished.{Unfinished}
+use Rattle.text_lines.specs.declared.unfinished.Unfinished.TheVariants as unfinished
+use Rattle.text_lines.specs.Ends.{unfinished_by}
 use Rattle.packet_lines.specs.Files.{IsFileBefore, IsHeadCut, IsRecordCut, IsRecordRefused, IsRefusedAt}
 use Rattle.packet_lines.specs.Telling.{EndsTold, IsTakenNear, IsWithinLast, Told, ToldPart, lines}
 use Rattle.octet_supply.specs.Supplying.{Held, IsAtEnd, Stands}
-use Rattle.packet_lines.specs.inside.Reading.{IsOpened, IsReadNext, Opens, ReadsNext, Writes, WritesPart}
+use Rattle.packet_lines.specs.inside.Reading.{FileEnd, IsOpened, IsReadNext, Opens, ReadsNext, Writes, WritesPart}
 use Rattle.packet_lines.proofs.Records.{after-after, after-none, file-more, head-file, lines-and}
 use Rattle.octet_supply.proofs.Public.{take-behind, within}
 
@@ -71,14 +74,13 @@ told-more file packet order h new left left_then number next held now then t r i
 
 -- ---- the ends
 
-pub open-ends : (file : List ℕ) (left : Option (List ℕ)) (held : Option (List ℕ)) (end : End)
-    → Opens file left (Err end) → EndsTold file left held held (Err end)
-open-ends file left held (Refused at why) o = ([], o, after-none held)
+pub open-ends : (file : List ℕ) (left : Option (List ℕ)) (held : Option (List ℕ)) (end : FileEnd)
+    → Opens file left (Err end) → EndsTold file left held held (Err (unfinished_by end))
+open-ends file left held (Refused (at, why)) o = ([], o, after-none held)
 open-ends file left held Limit (front, cut, past) =
     (past.longer, ([], inl (refl, subst IsHeadCut (sym past.front) cut), after-none held))
 open-ends file left held ReadFault (front, cut, taken) =
     (front, taken.rest, taken.whole, taken.told, taken.within, ([], inl (refl, cut), after-none held))
-open-ends file left held WriteFault o = absurd o
 open-ends file left held Memory o = inl refl
 
 pub whole-ends : (file : List ℕ) (order : Order) (h : Held) (left left_then : Option (List ℕ)) (number : ℕ)
@@ -113,10 +115,10 @@ refused-by file order h left number at held now why t here (behind, whole, refus
     )
 
 pub read-ends : (file packet : List ℕ) (order : Order) (h new : Held) (left left_then : Option (List ℕ))
-    (number : ℕ) (held now : Option (List ℕ)) (end : End) → (t : HasTold file order h left number held now)
+    (number : ℕ) (held now : Option (List ℕ)) (end : FileEnd) → (t : HasTold file order h left number held now)
     → ReadsNext file t.given order packet new left_then (Err end)
-    → EndsTold file left_then held now (Err end)
-read-ends file packet order h new left left_then number held now (Refused at Cut) t (here, (few, (behind, whole, some, cut))) = (
+    → EndsTold file left_then held now (Err (unfinished_by end))
+read-ends file packet order h new left left_then number held now (Refused (at, Cut)) t (here, (few, (behind, whole, some, cut))) = (
   t.packets,
   (
     few,
@@ -130,11 +132,11 @@ read-ends file packet order h new left left_then number held now (Refused at Cut
   ),
   t.told,
 )
-read-ends file packet order h new left left_then number held now (Refused at Magic) t (here, r) =
+read-ends file packet order h new left left_then number held now (Refused (at, Magic)) t (here, r) =
     (t.packets, refused-by file order h left number at held now Magic t here r, t.told)
-read-ends file packet order h new left left_then number held now (Refused at LinkType) t (here, r) =
+read-ends file packet order h new left left_then number held now (Refused (at, LinkType)) t (here, r) =
     (t.packets, refused-by file order h left number at held now LinkType t here r, t.told)
-read-ends file packet order h new left left_then number held now (Refused at Length) t (here, r) =
+read-ends file packet order h new left left_then number held now (Refused (at, Length)) t (here, r) =
     (t.packets, refused-by file order h left number at held now Length t here r, t.told)
 read-ends file packet order h new left left_then number held now Limit t (behind, cut, past) = (
   past.longer,
@@ -164,7 +166,6 @@ read-ends file packet order h new left left_then number held now ReadFault t (be
     t.told,
   ),
 )
-read-ends file packet order h new left left_then number held now WriteFault t r = absurd r
 read-ends file packet order h new left left_then number held now Memory t r =
     let a = within most_input file t.given h left t.stands in
     inr (
@@ -228,16 +229,16 @@ part-told file packet order h new left left_then number next held now then t r i
     }
 
 pub write-ends : (file packet : List ℕ) (order : Order) (h new : Held) (left left_then : Option (List ℕ))
-    (number next : ℕ) (held now then : Option (List ℕ)) (end : End)
+    (number next : ℕ) (held now then : Option (List ℕ)) (end : Unfinished CaptureFault)
     → (t : HasTold file order h left number held now)
     → IsReadNext file t.given order packet new left_then → next ≡ number + 1
     → Writes next packet now then (Err end) → EndsTold file left_then held then (Err end)
-write-ends file packet order h new left left_then number next held now then (Refused at why) t r is w = absurd w
-write-ends file packet order h new left left_then number next held now then Limit t r is w = absurd w
-write-ends file packet order h new left left_then number next held now then ReadFault t r is w = absurd w
-write-ends file packet order h new left left_then number next held now then WriteFault t r is w =
+write-ends file packet order h new left left_then number next held now then (unfinished.Refused at why) t r is w = absurd w
+write-ends file packet order h new left left_then number next held now then unfinished.Limit t r is w = absurd w
+write-ends file packet order h new left left_then number next held now then unfinished.ReadFault t r is w = absurd w
+write-ends file packet order h new left left_then number next held now then unfinished.WriteFault t r is w =
     let p = part-told file packet order h new left left_then number next held now then t r is w in
     (p.packets, p.behind, p.before, p.near, (p.count, p.last, p.told))
-write-ends file packet order h new left left_then number next held now then Memory t r is w =
+write-ends file packet order h new left left_then number next held now then unfinished.Memory t r is w =
     let p = part-told file packet order h new left left_then number next held now then t r is w in
     inr (p.packets, p.behind, p.before, (p.count, p.told))

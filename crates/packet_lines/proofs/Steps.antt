@@ -8,11 +8,14 @@ use Rattle.capture_file.specs.declared.fault.CaptureFault.{CaptureFault}
 use Rattle.capture_file.specs.declared.fault.CaptureFault.TheVariants.{Magic, LinkType, Cut, Length}
 use Rattle.lan_base.specs.Ranges.{most_input}
 use Rattle.capture_file.specs.Pcap.{head_read, kept_read}
-use Rattle.packet_lines.specs.declared.end.End.{End}
-use Rattle.packet_lines.specs.declared.end.End.TheVariants.{Refused, Limit, ReadFault, WriteFault, Memory}
+use Rattle.text_lines.specs.declared.reading.End.{End}
+use Rattle.text_lines.specs.declared.reading.End.TheVariants.{Refused, Limit, ReadFault, Memory}
+use Rattle.text_lines.specs.declared.unfinished.Unfinished.{Unfinished}
+use Rattle.text_lines.specs.declared.unfinished.Unfinished.TheVariants as unfinished
+use Rattle.text_lines.specs.Ends.{end_of, unfinished_by}
 use Rattle.packet_lines.specs.Files.{IsHeadCut, IsHeadRefused, IsRecordCut, IsRecordRefused}
 use Rattle.octet_supply.specs.Supplying.{Held, IsAtEnd, IsPast, IsTaken, Stands, Takes}
-use Rattle.packet_lines.specs.inside.Reading.{GivesCount, GivesOrder, IsOpened, IsReadNext, Opens, ReadsNext, RefusedNext, end_of}
+use Rattle.packet_lines.specs.inside.Reading.{GivesCount, GivesOrder, IsOpened, IsReadNext, Opens, ReadsNext, RefusedNext, FileEnd}
 use Rattle.octet_supply.proofs.Public.{within}
 
 -- ---- the head
@@ -58,19 +61,18 @@ head-refused text octets h left why t enough read =
       read = ap head_read (sym (take_all 24 octets (omega (arith, c)))) ∙ read;
     }
 
-pub opens-refused : (text octets : List ℕ) (h : Held) (left : Option (List ℕ)) (end : End)
+pub opens-refused : (text octets : List ℕ) (h : Held) (left : Option (List ℕ)) (end : FileEnd)
     → Takes most_input text [] 24 [] octets h left (Ok tt) → GivesOrder octets (Err end) → Opens text left (Err end)
-opens-refused text octets h left (Refused at Cut) t (none, less) =
+opens-refused text octets h left (Refused (at, Cut)) t (none, less) =
     let f = front-cut text octets h left t less in (f.0, inl (refl, none, f.1))
-opens-refused text octets h left (Refused at Magic) t (none, enough, read) =
+opens-refused text octets h left (Refused (at, Magic)) t (none, enough, read) =
     inl (refl, none, head-refused text octets h left Magic t enough read)
-opens-refused text octets h left (Refused at LinkType) t (none, enough, read) =
+opens-refused text octets h left (Refused (at, LinkType)) t (none, enough, read) =
     inl (refl, none, head-refused text octets h left LinkType t enough read)
-opens-refused text octets h left (Refused at Length) t (none, enough, read) =
+opens-refused text octets h left (Refused (at, Length)) t (none, enough, read) =
     inl (refl, none, head-refused text octets h left Length t enough read)
 opens-refused text octets h left Limit t g = absurd g
 opens-refused text octets h left ReadFault t g = absurd g
-opens-refused text octets h left WriteFault t g = absurd g
 opens-refused text octets h left Memory t g = absurd g
 
 pub opens-ok : (text octets : List ℕ) (h : Held) (left : Option (List ℕ)) (order : Order)
@@ -147,20 +149,19 @@ header-cut text given octets order h left (more, is, (stands, inr (few, end))) s
     (end.within, (more, end.all, (λ none. some (is ∙ none)), inl few))
 
 pub next-refused : (text given octets packet : List ℕ) (order : Order) (at : ℕ) (h new : Held)
-    (left : Option (List ℕ)) (end : End) → Takes most_input text given 16 [] octets h left (Ok tt) → octets ≢ []
+    (left : Option (List ℕ)) (end : FileEnd) → Takes most_input text given 16 [] octets h left (Ok tt) → octets ≢ []
     → at ≡ length given → GivesCount order at octets (Err end)
     → ReadsNext text given order packet new left (Err end)
-next-refused text given octets packet order at h new left (Refused where_at Cut) t some here (is, less) =
+next-refused text given octets packet order at h new left (Refused (where_at, Cut)) t some here (is, less) =
     (is ∙ here, header-cut text given octets order h left t some less)
-next-refused text given octets packet order at h new left (Refused where_at Magic) t some here (is, enough, read) =
+next-refused text given octets packet order at h new left (Refused (where_at, Magic)) t some here (is, enough, read) =
     (is ∙ here, header-refused text given octets order h left Magic t enough read)
-next-refused text given octets packet order at h new left (Refused where_at LinkType) t some here (is, enough, read) =
+next-refused text given octets packet order at h new left (Refused (where_at, LinkType)) t some here (is, enough, read) =
     (is ∙ here, header-refused text given octets order h left LinkType t enough read)
-next-refused text given octets packet order at h new left (Refused where_at Length) t some here (is, enough, read) =
+next-refused text given octets packet order at h new left (Refused (where_at, Length)) t some here (is, enough, read) =
     (is ∙ here, header-refused text given octets order h left Length t enough read)
 next-refused text given octets packet order at h new left Limit t some here g = absurd g
 next-refused text given octets packet order at h new left ReadFault t some here g = absurd g
-next-refused text given octets packet order at h new left WriteFault t some here g = absurd g
 next-refused text given octets packet order at h new left Memory t some here g = absurd g
 
 -- ---- the octets of a record
@@ -234,32 +235,25 @@ packet-whole text given header now order kept h middle left left_then has read (
 packet-whole text given header now order kept h middle left left_then has read (more, is, (stands, inr (less, end))) enough =
     let l = ap length is in absurd (omega (arith, l, less, enough))
 
--- ---- reading writes nothing
+-- ---- what reading is to who tells
 
-pub never-write : (e : ReadEnd) → end_of e ≡ WriteFault → ⊥
-never-write readings.Limit is = cc is
-never-write readings.Failed is = cc is
-never-write readings.Memory is = cc is
+-- reading writes nothing
+pub never-write : (end : FileEnd) → unfinished_by end ≡ unfinished.WriteFault → ⊥
+never-write (Refused (at, why)) is = cc is
+never-write Limit is = cc is
+never-write ReadFault is = cc is
+never-write Memory is = cc is
 
-pub order-never-write : (octets : List ℕ) (end : End) → GivesOrder octets (Err end) → end ≡ WriteFault → ⊥
-order-never-write octets (Refused at why) g is = cc is
-order-never-write octets Limit g is = g
-order-never-write octets ReadFault g is = g
-order-never-write octets WriteFault g is = g
-order-never-write octets Memory g is = g
-
-pub count-never-write : (order : Order) (at : ℕ) (octets : List ℕ) (end : End)
-    → GivesCount order at octets (Err end) → end ≡ WriteFault → ⊥
-count-never-write order at octets (Refused where_at why) g is = cc is
-count-never-write order at octets Limit g is = g
-count-never-write order at octets ReadFault g is = g
-count-never-write order at octets WriteFault g is = g
-count-never-write order at octets Memory g is = g
+pub read-faulted : (end : FileEnd) → unfinished_by end ≡ unfinished.ReadFault → end ≡ ReadFault
+read-faulted (Refused (at, why)) is = absurd (cc is)
+read-faulted Limit is = absurd (cc is)
+read-faulted ReadFault is = refl
+read-faulted Memory is = absurd (cc is)
 
 -- the error of a result
-pub same-error : {X : Type 0} (r : Result X End) (a b : End) → r ≡ Err a → r ≡ Err b → a ≡ b
-same-error {X = X} r a b is also = ap error (sym is ∙ also)
+pub same-error : {X E : Type 0} (r : Result X E) (a b : E) → r ≡ Err a → r ≡ Err b → a ≡ b
+same-error {X = X} {E = E} r a b is also = ap error (sym is ∙ also)
   where
-    error : Result X End → End
+    error : Result X E → E
     error (Ok x) = a
     error (Err end) = end

@@ -7,8 +7,8 @@ use Rattle.capture_file.specs.Describing.{described}
 use Rattle.lan_base.specs.Ranges.{most_input}
 use Rattle.capture_file.specs.Records.{IsFileOf}
 use Rattle.text_lines.specs.Reading.{most_at_once}
-use Rattle.packet_lines.specs.declared.end.End.{End}
-use Rattle.packet_lines.specs.declared.end.End.TheVariants as ends
+use Rattle.text_lines.specs.declared.unfinished.Unfinished.{Unfinished}
+use Rattle.text_lines.specs.declared.unfinished.Unfinished.TheVariants as ends
 use Rattle.packet_lines.specs.Files.{IsBrokenOff, IsCutAt, IsFileBefore, IsRefusedAt}
 
 -- ---- what is written
@@ -59,7 +59,7 @@ RefusedBy Cut file packets at = (length file ≤ most_input) × IsCutAt packets 
 -- end in what was taken, or within the limit. A fault of the sink and want of memory break off what is
 -- written; where the sink failed at the line of a packet, nothing was asked for behind that packet.
 abbrev pub EndsTold : List ℕ → Option (List ℕ) → Option (List ℕ) → Option (List ℕ)
-    → Result (Unit {0}) End → Type 0
+    → Result (Unit {0}) (Unfinished CaptureFault) → Type 0
 EndsTold file left held then (Ok done) =
     (length file ≤ most_input) × (left ≡ Some [])
     × ((packets : List (List ℕ)) × IsFileOf packets file × Told packets held then)

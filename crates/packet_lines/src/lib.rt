@@ -2,9 +2,7 @@
 //! before the next is read.
 #![tactic(auto)]
 
-mod end;
 mod reader;
 mod telling;
 
-pub use end::End;
 pub use telling::dissect;

@@ -1,12 +1,11 @@
 -- How the program ends after a transcript was captured, and after a file was told.
 use Rattle.std.proofs.Common.{◌≡◌, ℕ, List, Option, Result, Ok, Err, inl, refl}
 use Rattle.text_lines.specs.Reading.{Sourced}
-use Rattle.transcript_reader.specs.declared.unfinished.Unfinished.{Unfinished}
-use Rattle.transcript_reader.specs.declared.unfinished.Unfinished.TheVariants as unfinished
+use Rattle.text_lines.specs.declared.unfinished.Unfinished.{Unfinished}
+use Rattle.text_lines.specs.declared.unfinished.Unfinished.TheVariants as unfinished
 use Rattle.transcript_capture.specs.declared.fault.LineFault.{LineFault}
 use Rattle.transcript_capture.proofs.Public.{not-captured}
-use Rattle.packet_lines.specs.declared.end.End.{End as TellingEnd}
-use Rattle.packet_lines.specs.declared.end.End.TheVariants as tellings
+use Rattle.capture_file.specs.declared.fault.CaptureFault.{CaptureFault}
 use Rattle.replay.specs.declared.cause.Cause.TheVariants as causes
 use Rattle.replay.specs.Sinks.{Sunk}
 use Rattle.rollover_program.specs.declared.status.Status.TheVariants.{Usage, Halted}
@@ -21,7 +20,7 @@ not_captured text left old = (Err unfinished.Memory, not-captured text left old.
 
 pub not_dissected : (file : List ℕ) (left held : Option (List ℕ))
     → EndsAsDissect file left held held (Halted causes.Memory)
-not_dissected file left held = (Err tellings.Memory, inl refl, refl)
+not_dissected file left held = (Err unfinished.Memory, inl refl, refl)
 
 -- ---- a transcript was captured
 
@@ -53,28 +52,28 @@ capture_write (Err unfinished.Memory) e = absurd (cc e)
 
 -- ---- a file was told
 
-pub telling_no_usage : (r : Result (Unit {0}) TellingEnd) → status_of_telling r ≡ Usage → ⊥
+pub telling_no_usage : (r : Result (Unit {0}) (Unfinished CaptureFault)) → status_of_telling r ≡ Usage → ⊥
 telling_no_usage (Ok done) e = cc e
-telling_no_usage (Err (tellings.Refused at why)) e = cc e
-telling_no_usage (Err tellings.Limit) e = cc e
-telling_no_usage (Err tellings.ReadFault) e = cc e
-telling_no_usage (Err tellings.WriteFault) e = cc e
-telling_no_usage (Err tellings.Memory) e = cc e
+telling_no_usage (Err (unfinished.Refused at why)) e = cc e
+telling_no_usage (Err unfinished.Limit) e = cc e
+telling_no_usage (Err unfinished.ReadFault) e = cc e
+telling_no_usage (Err unfinished.WriteFault) e = cc e
+telling_no_usage (Err unfinished.Memory) e = cc e
 
-pub telling_read : (r : Result (Unit {0}) TellingEnd) → status_of_telling r ≡ Halted causes.ReadFault
-    → r ≡ Err tellings.ReadFault
+pub telling_read : (r : Result (Unit {0}) (Unfinished CaptureFault)) → status_of_telling r ≡ Halted causes.ReadFault
+    → r ≡ Err unfinished.ReadFault
 telling_read (Ok done) e = absurd (cc e)
-telling_read (Err (tellings.Refused at why)) e = absurd (cc e)
-telling_read (Err tellings.Limit) e = absurd (cc e)
-telling_read (Err tellings.ReadFault) e = refl
-telling_read (Err tellings.WriteFault) e = absurd (cc e)
-telling_read (Err tellings.Memory) e = absurd (cc e)
+telling_read (Err (unfinished.Refused at why)) e = absurd (cc e)
+telling_read (Err unfinished.Limit) e = absurd (cc e)
+telling_read (Err unfinished.ReadFault) e = refl
+telling_read (Err unfinished.WriteFault) e = absurd (cc e)
+telling_read (Err unfinished.Memory) e = absurd (cc e)
 
-pub telling_write : (r : Result (Unit {0}) TellingEnd) → status_of_telling r ≡ Halted causes.WriteFault
-    → r ≡ Err tellings.WriteFault
+pub telling_write : (r : Result (Unit {0}) (Unfinished CaptureFault)) → status_of_telling r ≡ Halted causes.WriteFault
+    → r ≡ Err unfinished.WriteFault
 telling_write (Ok done) e = absurd (cc e)
-telling_write (Err (tellings.Refused at why)) e = absurd (cc e)
-telling_write (Err tellings.Limit) e = absurd (cc e)
-telling_write (Err tellings.ReadFault) e = absurd (cc e)
-telling_write (Err tellings.WriteFault) e = refl
-telling_write (Err tellings.Memory) e = absurd (cc e)
+telling_write (Err (unfinished.Refused at why)) e = absurd (cc e)
+telling_write (Err unfinished.Limit) e = absurd (cc e)
+telling_write (Err unfinished.ReadFault) e = absurd (cc e)
+telling_write (Err unfinished.WriteFault) e = refl
+telling_write (Err unfinished.Memory) e = absurd (cc e)

@@ -4,11 +4,10 @@ use Rattle.std.specs.Prelude.{◌⊎◌}
 use Rattle.text_lines.specs.Reading.{Sourced}
 use Rattle.transcript_check.specs.declared.verdict.Verdict.{Verdict}
 use Rattle.transcript_check.specs.declared.fault.CheckFault.{CheckFault}
-use Rattle.transcript_reader.specs.declared.unfinished.Unfinished.{Unfinished}
-use Rattle.transcript_reader.specs.declared.unfinished.Unfinished.TheVariants as unfinished
+use Rattle.text_lines.specs.declared.unfinished.Unfinished.{Unfinished}
+use Rattle.text_lines.specs.declared.unfinished.Unfinished.TheVariants as unfinished
 use Rattle.transcript_capture.specs.declared.fault.LineFault.{LineFault}
-use Rattle.packet_lines.specs.declared.end.End.{End as TellingEnd}
-use Rattle.packet_lines.specs.declared.end.End.TheVariants as tellings
+use Rattle.capture_file.specs.declared.fault.CaptureFault.{CaptureFault}
 use Rattle.audit_facts.specs.declared.view.AuditView.{AuditView}
 use Rattle.capture_audit.specs.declared.asks.Asks.{Asks}
 use Rattle.capture_audit.specs.declared.end.AuditEnd.{AuditEnd}
@@ -131,13 +130,13 @@ by_capture (Err unfinished.ReadFault) = inl refl
 by_capture (Err unfinished.WriteFault) = inr (inl refl)
 by_capture (Err unfinished.Memory) = inr (inr refl)
 
-by_telling : (r : Result (Unit {0}) TellingEnd) → IsHaltedOutside (status_of_telling r)
+by_telling : (r : Result (Unit {0}) (Unfinished CaptureFault)) → IsHaltedOutside (status_of_telling r)
 by_telling (Ok done) = tt
-by_telling (Err (tellings.Refused at why)) = tt
-by_telling (Err tellings.Limit) = tt
-by_telling (Err tellings.ReadFault) = inl refl
-by_telling (Err tellings.WriteFault) = inr (inl refl)
-by_telling (Err tellings.Memory) = inr (inr refl)
+by_telling (Err (unfinished.Refused at why)) = tt
+by_telling (Err unfinished.Limit) = tt
+by_telling (Err unfinished.ReadFault) = inl refl
+by_telling (Err unfinished.WriteFault) = inr (inl refl)
+by_telling (Err unfinished.Memory) = inr (inr refl)
 
 by_audit : (r : Result (Unit {0}) AuditEnd) → IsHaltedOutside (status_of_audit r)
 by_audit (Ok done) = tt

@@ -5,8 +5,8 @@ use Rattle.lan_base.specs.Told.{after}
 use Rattle.text_lines.specs.Reading.{Sourced}
 use Rattle.transcript_check.specs.declared.verdict.Verdict.{Verdict}
 use Rattle.transcript_check.specs.declared.fault.CheckFault.{CheckFault}
-use Rattle.transcript_reader.specs.declared.unfinished.Unfinished.{Unfinished}
-use Rattle.transcript_reader.specs.declared.unfinished.Unfinished.TheVariants as ends
+use Rattle.text_lines.specs.declared.unfinished.Unfinished.{Unfinished}
+use Rattle.text_lines.specs.declared.unfinished.Unfinished.TheVariants as ends
 use Rattle.transcript_check.specs.Verdicts.{is_clean, text_of}
 use Rattle.transcript_check.proofs.Public.{not-judged}
 use Rattle.replay.specs.declared.cause.Cause.TheVariants as causes

@@ -6,7 +6,9 @@ mod feeding;
 mod laws;
 mod reading;
 mod taker;
+mod unfinished;
 
 pub use laws::law_lines_are_few;
 pub use reading::{End, read_lines};
 pub use taker::LineTaker;
+pub use unfinished::Unfinished;

@@ -1,29 +1,51 @@
 //! A source is read in pieces to its end, within a limit.
 
 ghost use Rattle.std.specs.Prelude.{◌≡◌, ◌≤◌};
+ghost use Rattle.text_lines.specs.declared.reading.End.TheVariants as ends;
+ghost use Rattle.text_lines.specs.Ends.{end_of};
 ghost use Rattle.text_lines.specs.Moments.{moment};
 ghost use Rattle.text_lines.specs.Reading.{Reads, sourced};
 ghost use Rattle.text_lines.specs.inside.Fed.{limited};
 
 use crate::feeding::{feed, last};
 use crate::taker::LineTaker;
-use lan_base::Source;
-use std::alloc::Global;
+use lan_base::{ReadEnd, Source};
+use std::alloc::{AllocFailed, Global};
 
 /// How many octets are asked for at a time.
 const BUFFER: usize = 4096;
 
-/// Why a text was not read and taken to its end.
+/// Why a text or a file was not read and taken to its end.
 #[derive(Drop)]
 pub enum End<E: Drop> {
-    /// A line was refused.
+    /// A line or a packet was refused.
     Refused(E),
-    /// There was no memory for a line.
+    /// There was no memory for it.
     Memory,
     /// The source failed.
     ReadFault,
     /// An octet past the limit was taken.
     Limit,
+}
+
+impl<E: Drop> From<ReadEnd> for End<E> {
+    ghost from_gives = { λ why end. end ≡ end_of why };
+
+    fn from(why: ReadEnd) -> Self {
+        match why {
+            ReadEnd::Limit => End::Limit,
+            ReadEnd::Failed => End::ReadFault,
+            ReadEnd::Memory => End::Memory,
+        }
+    }
+}
+
+impl<E: Drop, T: Drop> From<AllocFailed<T>> for End<E> {
+    ghost from_gives = { λ _ end. end ≡ ends.Memory };
+
+    fn from(_: AllocFailed<T>) -> Self {
+        End::Memory
+    }
 }
 
 /// Reads a text from a source to its end, and hands on each line as soon as it has ended: 4,096

@@ -10,8 +10,8 @@ use Rattle.lan_base.specs.Ranges.{most_input}
 use Rattle.transcript_reader.specs.Facts.{nothing}
 use Rattle.transcript_reader.specs.Reached.{Reached, WasReached}
 use Rattle.transcript_reader.specs.Transcripts.{EndsBy, EndsReading, IsFrontRead}
-use Rattle.transcript_reader.specs.declared.unfinished.Unfinished.{Unfinished}
-use Rattle.transcript_reader.specs.declared.unfinished.Unfinished.TheVariants as ends
+use Rattle.text_lines.specs.declared.unfinished.Unfinished.{Unfinished}
+use Rattle.text_lines.specs.declared.unfinished.Unfinished.TheVariants as ends
 use Rattle.transcript_reader.proofs.Public.{answers-as, ends-as}
 use Rattle.transcript_capture.specs.declared.clock.Clock.{Clock}
 use Rattle.transcript_capture.specs.declared.fault.LineFault.{LineFault}

@@ -5,8 +5,8 @@ use Rattle.text_lines.specs.Reading.{Sourced}
 use Rattle.lan_core.specs.declared.fact.Fact.{Fact}
 use Rattle.capture_file.specs.Records.{file_of}
 use Rattle.transcript_reader.specs.Transcripts.{EndsBy, IsTakenFrom}
-use Rattle.transcript_reader.specs.declared.unfinished.Unfinished.{Unfinished}
-use Rattle.transcript_reader.specs.declared.unfinished.Unfinished.TheVariants as ends
+use Rattle.text_lines.specs.declared.unfinished.Unfinished.{Unfinished}
+use Rattle.text_lines.specs.declared.unfinished.Unfinished.TheVariants as ends
 use Rattle.transcript_capture.specs.declared.fault.LineFault.{LineFault}
 use Rattle.transcript_capture.specs.Lines.{by_length}
 use Rattle.transcript_capture.specs.Packets.{packets}

@@ -3,7 +3,7 @@
 ghost use Rattle.std.specs.Prelude.{◌≡◌, ◌≤◌, ℕ, List, Err, Some};
 ghost use Rattle.lan_base.specs.Faults.{Rose};
 ghost use Rattle.text_lines.specs.Reading.{sourced};
-ghost use Rattle.transcript_reader.specs.declared.unfinished.Unfinished.TheVariants as ends;
+ghost use Rattle.text_lines.specs.declared.unfinished.Unfinished.TheVariants as ends;
 ghost use Rattle.transcript_capture.specs.Captures.{IsCaptured};
 ghost use Rattle.transcript_capture.specs.inside.Heading.{Heads};
 
@@ -12,7 +12,8 @@ use crate::recording::Recording;
 use capture_file::header;
 use lan_base::{Sink, Source, Unwritten, write_all};
 use std::alloc::Global;
-use transcript_reader::{Reading, Unfinished, read_transcript};
+use text_lines::Unfinished;
+use transcript_reader::{Reading, read_transcript};
 
 /// Reads a transcript from a source to its end, and writes the file of the frames that were put on the
 /// air: its head first, and each record as soon as the line has ended.

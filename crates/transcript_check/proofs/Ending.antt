@@ -6,8 +6,8 @@ use Rattle.text_lines.specs.Reading.{Sourced}
 use Rattle.transcript_reader.specs.Reached.{HasNoOutlet, Reached}
 use Rattle.transcript_reader.specs.Taking.{TakesFact}
 use Rattle.transcript_reader.specs.Transcripts.{EndsReading}
-use Rattle.transcript_reader.specs.declared.unfinished.Unfinished.{Unfinished}
-use Rattle.transcript_reader.specs.declared.unfinished.Unfinished.TheVariants as ends
+use Rattle.text_lines.specs.declared.unfinished.Unfinished.{Unfinished}
+use Rattle.text_lines.specs.declared.unfinished.Unfinished.TheVariants as ends
 use Rattle.transcript_reader.proofs.Public.{answers-as, ends-as, not-begun}
 use Rattle.transcript_check.specs.declared.fault.CheckError.{CheckError}
 use Rattle.transcript_check.specs.declared.fault.CheckError.TheVariants.{Refused, Memory}

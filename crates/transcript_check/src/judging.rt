@@ -3,7 +3,7 @@
 ghost use Rattle.std.specs.Prelude.{◌≡◌, ◌≢◌, ◌≤◌, List, ℕ, Some, Err};
 ghost use Rattle.lan_base.specs.Faults.{Rose};
 ghost use Rattle.text_lines.specs.Reading.{sourced};
-ghost use Rattle.transcript_reader.specs.declared.unfinished.Unfinished.TheVariants as ends;
+ghost use Rattle.text_lines.specs.declared.unfinished.Unfinished.TheVariants as ends;
 ghost use Rattle.transcript_check.specs.Transcripts.{EndsJudging};
 
 use crate::fault::CheckFault;
@@ -12,7 +12,8 @@ use crate::verdict::Verdict;
 use lan_base::Source;
 use lan_core::Fact;
 use std::alloc::Global;
-use transcript_reader::{FactTaker, Reading, TakeError, Unfinished, read_transcript};
+use text_lines::Unfinished;
+use transcript_reader::{FactTaker, Reading, TakeError, read_transcript};
 
 impl FactTaker<()> for Notes {
     ghost use Rattle.transcript_check.specs.declared.fault.CheckFault.TheVariants.{Unread};

@@ -6,8 +6,8 @@ use Rattle.text_lines.specs.Reading.{Sourced, lines_within}
 use Rattle.lan_base.specs.Ranges.{most_input}
 use Rattle.transcript_check.specs.declared.fault.CheckFault.{CheckFault}
 use Rattle.transcript_reader.specs.Transcripts.{AreRead as AreReadBy, EndsBy}
-use Rattle.transcript_reader.specs.declared.unfinished.Unfinished.{Unfinished}
-use Rattle.transcript_reader.specs.declared.unfinished.Unfinished.TheVariants as ends
+use Rattle.text_lines.specs.declared.unfinished.Unfinished.{Unfinished}
+use Rattle.text_lines.specs.declared.unfinished.Unfinished.TheVariants as ends
 use Rattle.transcript_reader.proofs.Public.{all-within, by-end-as, past-within, read-as}
 use Rattle.lan_core.specs.declared.fact.Fact.{Fact}
 use Rattle.transcript_check.specs.Standing.{by_epochs}

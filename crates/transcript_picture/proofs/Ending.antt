@@ -6,8 +6,8 @@ use Rattle.text_lines.specs.Moments.{Moment}
 use Rattle.text_lines.specs.Reading.{Sourced}
 use Rattle.transcript_reader.specs.Reached.{HasNoOutlet, Reached}
 use Rattle.transcript_reader.specs.Transcripts.{EndsReading}
-use Rattle.transcript_reader.specs.declared.unfinished.Unfinished.{Unfinished}
-use Rattle.transcript_reader.specs.declared.unfinished.Unfinished.TheVariants as ends
+use Rattle.text_lines.specs.declared.unfinished.Unfinished.{Unfinished}
+use Rattle.text_lines.specs.declared.unfinished.Unfinished.TheVariants as ends
 use Rattle.transcript_reader.proofs.Public.{answers-as, ends-as, not-begun, unanswered}
 use Rattle.transcript_check.specs.declared.fault.CheckFault.{CheckFault}
 use Rattle.transcript_check.specs.Standing.{by_epochs}

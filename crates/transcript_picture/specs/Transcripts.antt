@@ -5,7 +5,7 @@ use Rattle.lan_core.specs.declared.fact.Fact.{Fact}
 use Rattle.text_lines.specs.Reading.{Sourced}
 use Rattle.transcript_reader.specs.Reached.{HasNoOutlet}
 use Rattle.transcript_reader.specs.Transcripts.{EndsReading}
-use Rattle.transcript_reader.specs.declared.unfinished.Unfinished.{Unfinished}
+use Rattle.text_lines.specs.declared.unfinished.Unfinished.{Unfinished}
 use Rattle.transcript_check.specs.declared.fault.CheckFault.{CheckFault}
 use Rattle.transcript_check.specs.Standing.{by_epochs}
 

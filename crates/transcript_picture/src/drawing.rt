@@ -3,15 +3,16 @@
 ghost use Rattle.std.specs.Prelude.{◌≡◌, ◌≢◌, ◌≤◌, List, ℕ, Some, Err, IfErr};
 ghost use Rattle.lan_base.specs.Faults.{Rose};
 ghost use Rattle.text_lines.specs.Reading.{sourced};
-ghost use Rattle.transcript_reader.specs.declared.unfinished.Unfinished.TheVariants as ends;
+ghost use Rattle.text_lines.specs.declared.unfinished.Unfinished.TheVariants as ends;
 ghost use Rattle.transcript_picture.specs.Transcripts.{EndsDrawing};
 
 use crate::sheet::picture;
 use crate::sketch::Sketch;
 use lan_base::Source;
 use std::alloc::Global;
+use text_lines::Unfinished;
 use transcript_check::CheckFault;
-use transcript_reader::{Reading, Unfinished, read_transcript};
+use transcript_reader::{Reading, read_transcript};
 
 /// Reads a transcript from a source to its end, and answers its picture: a text in SVG that stands
 /// alone. Clauses that name a text speak of a source that tells its octets.

@@ -2,8 +2,8 @@
 
 ghost use Rattle.std.specs.Prelude.{ℕ, ◌≡◌, ◌⊎◌, List, Result, Err};
 ghost use Rattle.text_lines.specs.Reading.{Sourced};
-ghost use Rattle.transcript_reader.specs.declared.unfinished.Unfinished.{Unfinished};
-ghost use Rattle.transcript_reader.specs.declared.unfinished.Unfinished.TheVariants as ends;
+ghost use Rattle.text_lines.specs.declared.unfinished.Unfinished.{Unfinished};
+ghost use Rattle.text_lines.specs.declared.unfinished.Unfinished.TheVariants as ends;
 ghost use Rattle.transcript_check.specs.Transcripts.{EndsJudging};
 ghost use Rattle.transcript_check.specs.declared.fault.CheckFault.{CheckFault};
 ghost use Rattle.transcript_check.specs.declared.verdict.Verdict.{Verdict};

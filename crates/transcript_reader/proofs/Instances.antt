@@ -11,8 +11,8 @@ use Rattle.lan_base.specs.Ranges.{most_input}
 use Rattle.transcript_reader.specs.Facts.{nothing}
 use Rattle.transcript_reader.specs.Taking.{Rule}
 use Rattle.transcript_reader.specs.Transcripts.{AreRead, EndsBy, EndsReading, IsTakenFrom}
-use Rattle.transcript_reader.specs.declared.unfinished.Unfinished.{Unfinished}
-use Rattle.transcript_reader.specs.declared.unfinished.Unfinished.TheVariants as ends
+use Rattle.text_lines.specs.declared.unfinished.Unfinished.{Unfinished}
+use Rattle.text_lines.specs.declared.unfinished.Unfinished.TheVariants as ends
 
 -- a text within the limit has all of its lines within it
 pub all-within : (text : List ℕ) → length text ≤ most_input → lines_within most_input text ≡ lines_of text

@@ -18,8 +18,8 @@ use Rattle.transcript_reader.specs.Taking.{Courses, Rule}
 use Rattle.transcript_reader.specs.Transcripts.{AreRead, AreTaken, EndsBy, EndsReading, IsFrontRead, IsRefused, IsTakenFrom}
 use Rattle.transcript_reader.specs.declared.take_error.TakeError.{TakeError}
 use Rattle.transcript_reader.specs.declared.take_error.TakeError.TheVariants.{Refused, Failed, Memory}
-use Rattle.transcript_reader.specs.declared.unfinished.Unfinished.{Unfinished}
-use Rattle.transcript_reader.specs.declared.unfinished.Unfinished.TheVariants as ends
+use Rattle.text_lines.specs.declared.unfinished.Unfinished.{Unfinished}
+use Rattle.text_lines.specs.declared.unfinished.Unfinished.TheVariants as ends
 use Rattle.transcript_reader.specs.inside.Lines.{DidLines, Seeing, TookPart, TookTo, beside, why_unfinished}
 
 -- each line tells one fact

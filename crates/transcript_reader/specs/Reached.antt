@@ -3,8 +3,8 @@ use Rattle.std.specs.Prelude.{List, Result, Ok, Err}
 use Rattle.lan_core.specs.declared.fact.Fact.{Fact}
 use Rattle.text_lines.specs.Moments.{Moment}
 use Rattle.transcript_reader.specs.Taking.{Courses}
-use Rattle.transcript_reader.specs.declared.unfinished.Unfinished.{Unfinished}
-use Rattle.transcript_reader.specs.declared.unfinished.Unfinished.TheVariants as ends
+use Rattle.text_lines.specs.declared.unfinished.Unfinished.{Unfinished}
+use Rattle.text_lines.specs.declared.unfinished.Unfinished.TheVariants as ends
 
 -- these facts were taken, as far as the answer says
 abbrev pub Reached : {F T K : Type 0} → Courses T K → Moment T K → Moment T K

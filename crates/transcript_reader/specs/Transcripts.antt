@@ -8,8 +8,8 @@ use Rattle.text_lines.specs.Reading.{Sourced, lines_within, most_at_once}
 use Rattle.lan_base.specs.Ranges.{most_input}
 use Rattle.transcript_reader.specs.Facts.{Known, Tells, nothing}
 use Rattle.transcript_reader.specs.Taking.{Rule}
-use Rattle.transcript_reader.specs.declared.unfinished.Unfinished.{Unfinished}
-use Rattle.transcript_reader.specs.declared.unfinished.Unfinished.TheVariants as ends
+use Rattle.text_lines.specs.declared.unfinished.Unfinished.{Unfinished}
+use Rattle.text_lines.specs.declared.unfinished.Unfinished.TheVariants as ends
 
 -- lines that are taken one after another, from what is known, and facts, to what is known then, and others:
 -- each tells a fact that is free behind those before it

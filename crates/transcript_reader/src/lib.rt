@@ -23,4 +23,3 @@ pub use laws::{law_a_line_tells_one_fact, law_one_group_tells_what_it_reads};
 pub use reading::{Reading, read_transcript};
 pub use take_error::TakeError;
 pub use time::{is_own, moves_time};
-pub use unfinished::Unfinished;

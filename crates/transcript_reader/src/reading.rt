@@ -7,16 +7,16 @@ ghost use Rattle.text_lines.specs.Reading.{sourced};
 ghost use Rattle.transcript_reader.specs.Facts.{nothing};
 ghost use Rattle.transcript_reader.specs.Transcripts.{EndsReading};
 ghost use Rattle.transcript_reader.specs.Reached.{Reached, WasReached};
-ghost use Rattle.transcript_reader.specs.declared.unfinished.Unfinished.TheVariants as ends;
+ghost use Rattle.text_lines.specs.declared.unfinished.Unfinished.TheVariants as ends;
 ghost use Rattle.transcript_reader.specs.inside.Lines.{not_read};
 
 use crate::fact_reader::FactReader;
 use crate::fact_taker::FactTaker;
 use crate::take_error::TakeError;
-use crate::unfinished::{Unfinished, why_unfinished};
+use crate::unfinished::why_unfinished;
 use lan_base::{INPUT_MAX, Source};
 use std::alloc::{AllocError, Global};
-use text_lines::{LineTaker, law_lines_are_few, read_lines};
+use text_lines::{LineTaker, Unfinished, law_lines_are_few, read_lines};
 use transcript::FactError;
 
 /// A transcript that is read: what is known from its lines, how many there were, and who takes their

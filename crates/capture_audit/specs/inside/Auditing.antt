@@ -6,13 +6,12 @@ use Rattle.lan_base.specs.Ranges.{most_input}
 use Rattle.capture_packets.specs.Captures.{Step, Told, capture, opened, with_packets}
 use Rattle.capture_packets.specs.Packets.{Seen}
 use Rattle.capture_packets.specs.Reading.{TellsOn}
-use Rattle.capture_packets.specs.declared.end.End.{End}
-use Rattle.capture_packets.specs.declared.end.End.TheVariants as reads
+use Rattle.capture_packets.specs.Reading.{FileEnd}
+use Rattle.text_lines.specs.declared.reading.End.TheVariants as reads
 use Rattle.capture_packets.specs.declared.reader.PacketReader.{PacketReader}
 use Rattle.key_ring.specs.Reading.{file_in}
 use Rattle.key_ring.specs.Rings.{Ring, ring_in}
-use Rattle.key_ring.specs.declared.end.RingEnd.{RingEnd}
-use Rattle.key_ring.specs.declared.end.RingEnd.TheVariants as rings
+use Rattle.key_ring.specs.Reading.{RingEnd}
 use Rattle.lan_base.specs.Told.{after}
 use Rattle.capture_audit.specs.declared.auditor.Auditor.{Auditor}
 use Rattle.capture_audit.specs.declared.batch.Batch.{Batch}
@@ -27,22 +26,22 @@ use Rattle.capture_audit.specs.inside.Keeping.{IsSound, Keeps}
 -- ---- the ends of what is called
 
 abbrev pub end_of_ring : RingEnd → AuditEnd
-end_of_ring (rings.Line line why) = ends.KeyLine line why
-end_of_ring rings.Limit = ends.InputLimit
-end_of_ring rings.ReadFault = ends.ReadFault
-end_of_ring rings.Memory = ends.Memory
+end_of_ring (reads.Refused (line, why)) = ends.KeyLine line why
+end_of_ring reads.Limit = ends.InputLimit
+end_of_ring reads.ReadFault = ends.ReadFault
+end_of_ring reads.Memory = ends.Memory
 
-abbrev pub end_of_head : End → AuditEnd
-end_of_head (reads.Refused at why) = ends.Refused at why
+abbrev pub end_of_head : FileEnd → AuditEnd
+end_of_head (reads.Refused (at, why)) = ends.Refused at why
 end_of_head reads.Limit = ends.InputLimit
 end_of_head reads.ReadFault = ends.ReadFault
 end_of_head reads.Memory = ends.Memory
 
 -- how reading ended, where no packet was read
-abbrev pub ending_of : Result Bool End → Result (Option Ending) AuditEnd
+abbrev pub ending_of : Result Bool FileEnd → Result (Option Ending) AuditEnd
 ending_of (Ok true) = Ok None
 ending_of (Ok false) = Ok (Some endings.Whole)
-ending_of (Err (reads.Refused at why)) = Ok (Some (endings.Octet at why))
+ending_of (Err (reads.Refused (at, why))) = Ok (Some (endings.Octet at why))
 ending_of (Err reads.Limit) = Ok (Some endings.InputLimit)
 ending_of (Err reads.ReadFault) = Ok (Some endings.Fault)
 ending_of (Err reads.Memory) = Err ends.Memory

@@ -1,19 +1,12 @@
 -- How the key text is read, line by line.
 use Rattle.std.specs.Prelude.{◌≡◌, ℕ, Bool, true, false, List, Option, Some, None, Result, Ok, Err}
-use Rattle.lan_base.specs.declared.source.ReadEnd.{ReadEnd}
-use Rattle.lan_base.specs.declared.source.ReadEnd.TheVariants as readings
 use Rattle.octet_supply.specs.Supplying.{Held}
 use Rattle.trace_text.specs.declared.fault.TextFault.{TextFault}
 use Rattle.audit_text.specs.declared.line.KeyLine.{KeyLine}
 use Rattle.audit_text.specs.Reading.{key_line_in}
-use Rattle.key_ring.specs.declared.end.RingEnd.{RingEnd}
-use Rattle.key_ring.specs.declared.end.RingEnd.TheVariants.{Limit, Line, Memory, ReadFault}
+use Rattle.key_ring.specs.Reading.{RingEnd}
+use Rattle.text_lines.specs.declared.reading.End.TheVariants.{Limit, Memory, ReadFault, Refused}
 use Rattle.key_ring.specs.Rings.{Ring, with_line}
-
-abbrev pub end_of : ReadEnd → RingEnd
-end_of readings.Limit = Limit
-end_of readings.Failed = ReadFault
-end_of readings.Memory = Memory
 
 -- what is answered where reading the lines told whether a capture begins behind them
 abbrev pub answered : Ring → Held → Result Bool RingEnd → Result (Ring × Option Held) RingEnd
@@ -30,7 +23,7 @@ Adds n (Err why) old new = ⊥
 -- what adding a line did
 abbrev pub AddsLine : ℕ → List ℕ → Ring → Ring → Result (Unit {0}) RingEnd → Type 0
 AddsLine n text old new (Ok done) = Adds n (key_line_in text) old new
-AddsLine n text old new (Err (Line line why)) =
+AddsLine n text old new (Err (Refused (line, why))) =
     (line ≡ n) × (key_line_in text ≡ Err why) × (new ≡ old)
 AddsLine n text old new (Err Memory) = new ≡ old
 AddsLine n text old new (Err _) = ⊥

@@ -1,7 +1,5 @@
 -- How a head and a record are read of a text that a source tells.
 use Rattle.std.specs.Prelude.{⊤, ◌≡◌, ◌≢◌, ◌<◌, ◌≤◌, ℕ, Bool, true, false, List, [], ◌++◌, length, take, Option, Result, Ok, Err}
-use Rattle.lan_base.specs.declared.source.ReadEnd.{ReadEnd}
-use Rattle.lan_base.specs.declared.source.ReadEnd.TheVariants as readings
 use Rattle.lan_base.specs.Told.{after}
 use Rattle.capture_file.specs.declared.order.Order.{Order}
 use Rattle.capture_file.specs.declared.fault.CaptureFault.{CaptureFault}
@@ -9,37 +7,38 @@ use Rattle.capture_file.specs.declared.fault.CaptureFault.TheVariants.{Cut}
 use Rattle.capture_file.specs.Describing.{described}
 use Rattle.lan_base.specs.Ranges.{most_input}
 use Rattle.capture_file.specs.Pcap.{head_read, kept_read}
-use Rattle.packet_lines.specs.declared.end.End.{End}
-use Rattle.packet_lines.specs.declared.end.End.TheVariants.{Refused, Limit, ReadFault, WriteFault, Memory}
+use Rattle.text_lines.specs.declared.reading.End.{End}
+use Rattle.text_lines.specs.declared.reading.End.TheVariants.{Refused, Limit, ReadFault, Memory}
+use Rattle.text_lines.specs.declared.unfinished.Unfinished.{Unfinished}
+use Rattle.text_lines.specs.declared.unfinished.Unfinished.TheVariants as unfinished
 use Rattle.packet_lines.specs.declared.reader.PacketReader.{PacketReader}
 use Rattle.packet_lines.specs.Files.{IsHeadCut, IsRecordCut, IsRecordRefused}
 use Rattle.packet_lines.specs.Telling.{RefusedBy}
 use Rattle.octet_supply.specs.Supplying.{Held, IsAtEnd, IsPast, IsTaken, Stands}
 
-abbrev pub end_of : ReadEnd → End
-end_of readings.Limit = Limit
-end_of readings.Failed = ReadFault
-end_of readings.Memory = Memory
+-- why a file is not read to its end
+abbrev pub FileEnd : Type 0
+FileEnd = End (ℕ × CaptureFault)
 
 -- a head was read from octets, which are one at least
-abbrev pub GivesOrder : List ℕ → Result Order End → Type 0
+abbrev pub GivesOrder : List ℕ → Result Order FileEnd → Type 0
 GivesOrder octets (Ok order) = (24 ≤ length octets) × (head_read (take 24 octets) ≡ Ok order)
-GivesOrder octets (Err (Refused at Cut)) = (at ≡ 0) × (length octets < 24)
-GivesOrder octets (Err (Refused at why)) =
+GivesOrder octets (Err (Refused (at, Cut))) = (at ≡ 0) × (length octets < 24)
+GivesOrder octets (Err (Refused (at, why))) =
     (at ≡ 0) × (24 ≤ length octets) × (head_read (take 24 octets) ≡ Err why)
 GivesOrder octets (Err _) = ⊥
 
 -- a header was read from octets
-abbrev pub GivesCount : Order → ℕ → List ℕ → Result ℕ End → Type 0
+abbrev pub GivesCount : Order → ℕ → List ℕ → Result ℕ FileEnd → Type 0
 GivesCount order at octets (Ok kept) =
     (16 ≤ length octets) × (kept_read order (take 16 octets) ≡ Ok kept)
-GivesCount order at octets (Err (Refused where_at Cut)) = (where_at ≡ at) × (length octets < 16)
-GivesCount order at octets (Err (Refused where_at why)) =
+GivesCount order at octets (Err (Refused (where_at, Cut))) = (where_at ≡ at) × (length octets < 16)
+GivesCount order at octets (Err (Refused (where_at, why))) =
     (where_at ≡ at) × (16 ≤ length octets) × (kept_read order (take 16 octets) ≡ Err why)
 GivesCount order at octets (Err _) = ⊥
 
 -- a reader, seen as its order of octets and its supply
-abbrev pub seen : Result PacketReader End → Result (Order × Held) End
+abbrev pub seen : Result PacketReader FileEnd → Result (Order × Held) FileEnd
 seen (Ok reader) = Ok (reader.order, reader.supply)
 seen (Err end) = Err end
 
@@ -52,12 +51,11 @@ pub record IsOpened (text : List ℕ) (order : Order) (h : Held) (left : Option 
     pub read : head_read head ≡ Ok order
 
 -- what reading a head did
-abbrev pub Opens : List ℕ → Option (List ℕ) → Result (Order × Held) End → Type 0
+abbrev pub Opens : List ℕ → Option (List ℕ) → Result (Order × Held) FileEnd → Type 0
 Opens text left (Ok reader) = IsOpened text reader.0 reader.1 left
-Opens text left (Err (Refused at why)) = RefusedBy why text [] at
+Opens text left (Err (Refused (at, why))) = RefusedBy why text [] at
 Opens text left (Err Limit) = (front : List ℕ) × IsHeadCut front × IsPast most_input text front
 Opens text left (Err ReadFault) = (front : List ℕ) × IsHeadCut front × IsTaken most_input text front left
-Opens text left (Err WriteFault) = ⊥
 Opens text left (Err Memory) = ⊤
 
 -- a record was given out of a text, behind what was given before
@@ -77,16 +75,15 @@ RefusedNext why text given order =
 
 -- what reading a record did
 abbrev pub ReadsNext : List ℕ → List ℕ → Order → List ℕ → Held → Option (List ℕ)
-    → Result Bool End → Type 0
+    → Result Bool FileEnd → Type 0
 ReadsNext text given order packet new left (Ok true) = IsReadNext text given order packet new left
 ReadsNext text given order packet new left (Ok false) = IsAtEnd most_input text given left
-ReadsNext text given order packet new left (Err (Refused at why)) =
+ReadsNext text given order packet new left (Err (Refused (at, why))) =
     (at ≡ length given) × RefusedNext why text given order
 ReadsNext text given order packet new left (Err Limit) =
     (behind : List ℕ) × IsRecordCut order behind × IsPast most_input text (given ++ behind)
 ReadsNext text given order packet new left (Err ReadFault) =
     (behind : List ℕ) × IsRecordCut order behind × IsTaken most_input text (given ++ behind) left
-ReadsNext text given order packet new left (Err WriteFault) = ⊥
 ReadsNext text given order packet new left (Err Memory) = ⊤
 
 -- a part of the line of a packet was written, but not all
@@ -95,8 +92,8 @@ WritesPart number packet held then = (n : ℕ) × (n < length (described number 
     × (then ≡ after held (take n (described number packet)))
 
 -- what writing the line of a packet did
-abbrev pub Writes : ℕ → List ℕ → Option (List ℕ) → Option (List ℕ) → Result (Unit {0}) End → Type 0
+abbrev pub Writes : ℕ → List ℕ → Option (List ℕ) → Option (List ℕ) → Result (Unit {0}) (Unfinished CaptureFault) → Type 0
 Writes number packet held then (Ok done) = then ≡ after held (described number packet)
-Writes number packet held then (Err WriteFault) = WritesPart number packet held then
-Writes number packet held then (Err Memory) = WritesPart number packet held then
+Writes number packet held then (Err unfinished.WriteFault) = WritesPart number packet held then
+Writes number packet held then (Err unfinished.Memory) = WritesPart number packet held then
 Writes number packet held then (Err _) = ⊥

@@ -4,8 +4,8 @@ use Rattle.lan_base.specs.Faults.{Rose}
 use Rattle.text_lines.specs.Reading.{Sourced}
 use Rattle.transcript_check.specs.declared.verdict.Verdict.{Verdict}
 use Rattle.transcript_check.specs.declared.fault.CheckFault.{CheckFault}
-use Rattle.transcript_reader.specs.declared.unfinished.Unfinished.{Unfinished}
-use Rattle.transcript_reader.specs.declared.unfinished.Unfinished.TheVariants as ends
+use Rattle.text_lines.specs.declared.unfinished.Unfinished.{Unfinished}
+use Rattle.text_lines.specs.declared.unfinished.Unfinished.TheVariants as ends
 use Rattle.transcript_check.specs.Verdicts.{is_clean, text_of}
 use Rattle.transcript_check.specs.Transcripts.{EndsJudging}
 use Rattle.replay.specs.declared.cause.Cause.TheVariants as causes

@@ -1,14 +1,15 @@
 -- `dissect`: each packet of a file of captured packets is told in one line.
 use Rattle.std.specs.Prelude.{◌≡◌, ℕ, List, Option, Result, Ok, Err}
+use Rattle.capture_file.specs.declared.fault.CaptureFault.{CaptureFault}
 use Rattle.replay.specs.declared.cause.Cause.TheVariants as causes
-use Rattle.packet_lines.specs.declared.end.End.{End}
-use Rattle.packet_lines.specs.declared.end.End.TheVariants as ends
+use Rattle.text_lines.specs.declared.unfinished.Unfinished.{Unfinished}
+use Rattle.text_lines.specs.declared.unfinished.Unfinished.TheVariants as ends
 use Rattle.packet_lines.specs.Telling.{EndsTold}
 use Rattle.rollover_program.specs.declared.status.Status.{Status}
 use Rattle.rollover_program.specs.declared.status.Status.TheVariants.{Done, Halted, Capture, CaptureInput}
 
 -- the status of how telling a file ended
-abbrev pub status_of_telling : Result (Unit {0}) End → Status
+abbrev pub status_of_telling : Result (Unit {0}) (Unfinished CaptureFault) → Status
 status_of_telling (Ok done) = Done
 status_of_telling (Err (ends.Refused at why)) = Capture at why
 status_of_telling (Err ends.Limit) = CaptureInput
@@ -19,5 +20,5 @@ status_of_telling (Err ends.Memory) = Halted causes.Memory
 -- the file was told, and the status is that of how it ended
 abbrev pub EndsAsDissect : List ℕ → Option (List ℕ) → Option (List ℕ) → Option (List ℕ) → Status
     → Type 0
-EndsAsDissect file left held then status = (answer : Result (Unit {0}) End)
+EndsAsDissect file left held then status = (answer : Result (Unit {0}) (Unfinished CaptureFault))
     × EndsTold file left held then answer × (status ≡ status_of_telling answer)

@@ -3,7 +3,7 @@ use Rattle.std.specs.Prelude.{◌≡◌, ◌⊎◌, ℕ, List, [], ◌∷◌, Ok
 use Rattle.lan_base.specs.Faults.{Rose}
 use Rattle.text_lines.specs.Reading.{Sourced}
 use Rattle.transcript_check.specs.declared.fault.CheckFault.{CheckFault}
-use Rattle.transcript_reader.specs.declared.unfinished.Unfinished.{Unfinished}
+use Rattle.text_lines.specs.declared.unfinished.Unfinished.{Unfinished}
 use Rattle.transcript_picture.specs.Transcripts.{EndsDrawing}
 use Rattle.replay.specs.declared.cause.Cause.TheVariants as causes
 use Rattle.replay.specs.Sinks.{Sunk, Wrote, BrokeOff}

@@ -12,8 +12,8 @@ use crate::status::Status;
 use lan_base::{Sink, Source};
 use replay::Cause;
 use std::alloc::Global;
+use text_lines::Unfinished;
 use transcript_capture::LineFault;
-use transcript_reader::Unfinished;
 
 /// Writes the file of a transcript's frames.
 pub fn capture<S: Source, K: Sink>(alloc: Global, source: &mut S, sink: &mut K) -> Status
@@ -37,7 +37,7 @@ fn status_of_capture(answer: Result<(), Unfinished<LineFault>>) -> Status
 {
     match answer {
         Ok(()) => Status::Done,
-        Err(Unfinished::Refused { line, why }) => Status::Unrecorded { line, why },
+        Err(Unfinished::Refused { at, why }) => Status::Unrecorded { line: at, why },
         Err(Unfinished::Limit) => Status::CaptureInput,
         Err(Unfinished::ReadFault) => Status::Halted(Cause::ReadFault),
         Err(Unfinished::WriteFault) => Status::Halted(Cause::WriteFault),

@@ -12,8 +12,8 @@ use crate::status::Status;
 use lan_base::{Sink, Source, Unwritten, write_all};
 use replay::Cause;
 use std::alloc::Global;
+use text_lines::Unfinished;
 use transcript_check::{CheckFault, Verdict, judge};
-use transcript_reader::Unfinished;
 
 /// Judges a transcript, and writes the verdict at its end.
 pub fn check<S: Source, K: Sink>(alloc: Global, source: &mut S, sink: &mut K) -> Status
@@ -65,7 +65,7 @@ pub fn status_of(why: Unfinished<CheckFault>) -> Status
     ensures { result ≡ status_of why }
 {
     match why {
-        Unfinished::Refused { line, why } => Status::Transcript { line, why },
+        Unfinished::Refused { at, why } => Status::Transcript { line: at, why },
         Unfinished::Memory => Status::Halted(Cause::Memory),
         Unfinished::ReadFault => Status::Halted(Cause::ReadFault),
         Unfinished::WriteFault => Status::Halted(Cause::WriteFault),

@@ -7,10 +7,11 @@ ghost use Rattle.rollover_program.specs.declared.status.Status.TheVariants as st
 ghost use Rattle.rollover_program.specs.commands.Dissect.{EndsAsDissect, status_of_telling};
 
 use crate::status::Status;
+use capture_file::CaptureFault;
 use lan_base::{Sink, Source};
-use packet_lines::End;
 use replay::Cause;
 use std::alloc::Global;
+use text_lines::Unfinished;
 
 /// Tells each packet of a file of captured packets in one line.
 pub fn dissect<S: Source, K: Sink>(alloc: Global, source: &mut S, sink: &mut K) -> Status
@@ -26,15 +27,15 @@ pub fn dissect<S: Source, K: Sink>(alloc: Global, source: &mut S, sink: &mut K) 
 }
 
 /// The status of how telling a file ended.
-fn status_of_telling(answer: Result<(), End>) -> Status
+fn status_of_telling(answer: Result<(), Unfinished<CaptureFault>>) -> Status
     ensures { result ≡ status_of_telling answer }
 {
     match answer {
         Ok(()) => Status::Done,
-        Err(End::Refused { at, why }) => Status::Capture { at, why },
-        Err(End::Limit) => Status::CaptureInput,
-        Err(End::ReadFault) => Status::Halted(Cause::ReadFault),
-        Err(End::WriteFault) => Status::Halted(Cause::WriteFault),
-        Err(End::Memory) => Status::Halted(Cause::Memory),
+        Err(Unfinished::Refused { at, why }) => Status::Capture { at, why },
+        Err(Unfinished::Limit) => Status::CaptureInput,
+        Err(Unfinished::ReadFault) => Status::Halted(Cause::ReadFault),
+        Err(Unfinished::WriteFault) => Status::Halted(Cause::WriteFault),
+        Err(Unfinished::Memory) => Status::Halted(Cause::Memory),
     }
 }

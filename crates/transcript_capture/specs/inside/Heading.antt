@@ -2,8 +2,8 @@
 use Rattle.std.specs.Prelude.{◌≡◌, ℕ, List, Option, Result, Ok, Err}
 use Rattle.lan_base.specs.Told.{after}
 use Rattle.capture_file.specs.Pcap.{head_octets}
-use Rattle.transcript_reader.specs.declared.unfinished.Unfinished.{Unfinished}
-use Rattle.transcript_reader.specs.declared.unfinished.Unfinished.TheVariants.{WriteFault, Memory}
+use Rattle.text_lines.specs.declared.unfinished.Unfinished.{Unfinished}
+use Rattle.text_lines.specs.declared.unfinished.Unfinished.TheVariants.{WriteFault, Memory}
 use Rattle.transcript_capture.specs.declared.fault.LineFault.{LineFault}
 use Rattle.transcript_capture.specs.Recording.{WrotePart}
 

@@ -12,8 +12,8 @@ use Rattle.transcript_reader.specs.Taking.{Courses, Rule}
 use Rattle.transcript_reader.specs.Transcripts.{AreTaken}
 use Rattle.transcript_reader.specs.declared.take_error.TakeError.{TakeError}
 use Rattle.transcript_reader.specs.declared.take_error.TakeError.TheVariants.{Refused, Failed, Memory}
-use Rattle.transcript_reader.specs.declared.unfinished.Unfinished.{Unfinished}
-use Rattle.transcript_reader.specs.declared.unfinished.Unfinished.TheVariants as ends
+use Rattle.text_lines.specs.declared.unfinished.Unfinished.{Unfinished}
+use Rattle.text_lines.specs.declared.unfinished.Unfinished.TheVariants as ends
 
 -- how a value that reads is seen: what is known from the lines, how many were taken, and who takes facts
 pub record Seeing (P T : Type 0) : Type 0 where

@@ -3,7 +3,7 @@ use Rattle.std.proofs.lemmas.Result.{err_from_is_err_and}
 use Rattle.capture_file.specs.declared.order.Order.{Order}
 use Rattle.packet_lines.specs.inside.Reading.{Writes}
 use Rattle.packet_lines.proofs.Ends.{HasTold, open-ends, read-ends, told-more, told-none, whole-ends, write-ends}
-use Rattle.packet_lines.proofs.Steps.{same-error}
+use Rattle.packet_lines.proofs.Steps.{never-write, read-faulted, same-error}
 use Rattle.packet_lines.proofs.telling.dissect.Goals as goal
 
 pub returns-in_err-reader-clause-told : goal.returns-in_err-reader-clause-told
@@ -14,7 +14,13 @@ returns-in_err-reader-clause-told g c = λ file told.
 pub returns-in_err-reader-clause-write_fault : goal.returns-in_err-reader-clause-write_fault
 returns-in_err-reader-clause-write_fault g c = λ is.
     let p = err_from_is_err_and c.from_residual.result c.from_residual.ensures.1 in
-    absurd (c.in_err-reader.ensures.unwritten (ap Err (same-error _ _ _ (p.1 ∙ ap (λ e. Err e) p.2) is)))
+    absurd (never-write c.in_err-reader.field-0.0 (same-error _ _ _ (p.1 ∙ ap (λ e. Err e) p.2) is))
+
+pub returns-in_err-reader-clause-read_fault : goal.returns-in_err-reader-clause-read_fault
+returns-in_err-reader-clause-read_fault g c = λ is.
+    let p = err_from_is_err_and c.from_residual.result c.from_residual.ensures.1 in
+    c.in_err-reader.ensures.failed (ap (λ e. Err e)
+    (read-faulted c.in_err-reader.field-0.0 (same-error _ _ _ (p.1 ∙ ap (λ e. Err e) p.2) is)))
 
 pub loop-line-init : goal.loop-line-init
 loop-line-init g c = record {
@@ -36,7 +42,7 @@ returns-in_err-read-clause-told g c = λ file told.
 pub returns-in_err-read-clause-write_fault : goal.returns-in_err-read-clause-write_fault
 returns-in_err-read-clause-write_fault g c = λ is.
     let p = err_from_is_err_and c.from_residual-in_err-read.result c.from_residual-in_err-read.ensures.1 in
-    absurd (c.in_err-read.ensures.unwritten (ap Err (same-error _ _ _ (p.1 ∙ ap (λ e. Err e) p.2) is)))
+    absurd (never-write c.in_err-read.field-0.0 (same-error _ _ _ (p.1 ∙ ap (λ e. Err e) p.2) is))
 
 pub loop-line-preserved : goal.loop-line-preserved
 loop-line-preserved g c = record {

@@ -1,5 +1,5 @@
 use Rattle.std.proofs.Common.{ℕ, List, Err}
-use Rattle.transcript_reader.specs.declared.unfinished.Unfinished.TheVariants as ends
+use Rattle.text_lines.specs.declared.unfinished.Unfinished.TheVariants as ends
 use Rattle.transcript_check.specs.declared.verdict.Verdict.{Verdict}
 use Rattle.transcript_check.specs.Transcripts.{AreJudged}
 use Rattle.transcript_picture.specs.Transcripts.{AreDrawn}

@@ -4,7 +4,7 @@ use Rattle.octet_supply.specs.Supplying.{Held, Stands}
 use Rattle.octet_supply.proofs.Public.{stands-new}
 use Rattle.lan_base.specs.Ranges.{most_input}
 use Rattle.packet_lines.specs.inside.Reading.{GivesOrder}
-use Rattle.packet_lines.proofs.Steps.{never-write, opens-err, opens-ok, opens-refused, order-never-write, same-error}
+use Rattle.packet_lines.proofs.Steps.{opens-err, opens-ok, opens-refused}
 use Rattle.packet_lines.proofs.reader.PacketReader.open.Goals as goal
 
 pub returns-in_err-take-clause-opens : goal.returns-in_err-take-clause-opens
@@ -33,13 +33,3 @@ returns-clause-opens g c = λ text told.
     let o = c.in_ok-order.ensures in
     opens-ok text c.take.new.into.items c.take.new.self _ c.in_ok-order.order
     (rw c.new-octets.ensures.items at t) (rw c.deref.ensures.value at o)
-
-pub returns-in_err-take-clause-unwritten : goal.returns-in_err-take-clause-unwritten
-returns-in_err-take-clause-unwritten g c = λ is.
-    let p = err_from_is_err_and c.from_residual.result c.from_residual.ensures.1 in
-    never-write c.in_err-take.field-0.0 (same-error _ _ _ (p.1 ∙ ap (λ e. Err e) p.2) is)
-
-pub returns-in_err-order-clause-unwritten : goal.returns-in_err-order-clause-unwritten
-returns-in_err-order-clause-unwritten g c = λ is.
-    let p = err_from_is_err_and c.from_residual-in_err-order.result c.from_residual-in_err-order.ensures.1 in
-    order-never-write _ c.in_err-order.field-0.0 c.in_err-order.ensures (same-error _ _ _ (p.1 ∙ ap (λ e. Err e) p.2) is)

@@ -3,7 +3,7 @@ use Rattle.std.proofs.lemmas.Result.{err_from_is_err_and}
 use Rattle.lan_base.specs.Ranges.{most_input}
 use Rattle.packet_lines.specs.inside.Reading.{GivesCount}
 use Rattle.octet_supply.proofs.Public.{no-octets}
-use Rattle.packet_lines.proofs.Steps.{at-whole, count-never-write, header-err, header-whole, never-write, next-refused, same-error, packet-err, packet-short, packet-whole}
+use Rattle.packet_lines.proofs.Steps.{at-whole, header-err, header-whole, next-refused, packet-err, packet-short, packet-whole}
 use Rattle.packet_lines.proofs.reader.PacketReader.read.Goals as goal
 
 pub returns-in_err-take-clause-reads : goal.returns-in_err-take-clause-reads
@@ -68,18 +68,3 @@ returns-clause-reads g c = λ text given s.
     c.in_ok-count.count c.take.new.self c.take-2.new.self _ _ h count.1
     (rw c.clear-2.ensures.items at u)
     (let o = c.take-2.new.into.ok in omega (arith, o, c.if-len-count.false, c.len.ensures))
-
-pub returns-in_err-take-clause-unwritten : goal.returns-in_err-take-clause-unwritten
-returns-in_err-take-clause-unwritten g c = λ is.
-    let p = err_from_is_err_and c.from_residual.result c.from_residual.ensures.1 in
-    never-write c.in_err-take.field-0.0 (same-error _ _ _ (p.1 ∙ ap (λ e. Err e) p.2) is)
-
-pub returns-in_err-count-clause-unwritten : goal.returns-in_err-count-clause-unwritten
-returns-in_err-count-clause-unwritten g c = λ is.
-    let p = err_from_is_err_and c.from_residual-in_err-count.result c.from_residual-in_err-count.ensures.1 in
-    count-never-write _ _ _ c.in_err-count.field-0.0 c.in_err-count.ensures (same-error _ _ _ (p.1 ∙ ap (λ e. Err e) p.2) is)
-
-pub returns-in_err-take-2-clause-unwritten : goal.returns-in_err-take-2-clause-unwritten
-returns-in_err-take-2-clause-unwritten g c = λ is.
-    let p = err_from_is_err_and c.from_residual-in_err-take-2.result c.from_residual-in_err-take-2.ensures.1 in
-    never-write c.in_err-take-2.field-0.0 (same-error _ _ _ (p.1 ∙ ap (λ e. Err e) p.2) is)
