@@ -2,18 +2,13 @@
 use Rattle.std.proofs.Common.{◌≡◌, ℕ, true, false, List, ◌∷◌, refl, sym, ap, ◌∙◌, subst, inl, Bool}
 use Rattle.std.specs.Prelude.{Option, Some, None, Result, Err, codes}
 use Rattle.std.specs.Option.{ok_or}
-use Rattle.lan_base.specs.declared.key_id.KeyId.{KeyId}
-use Rattle.sak_exchange.specs.declared.change.Why.{Why}
-use Rattle.mka_station.specs.declared.verdict.DropReason.{DropReason}
-use Rattle.mka_station.specs.declared.verdict.Verdict.{Verdict}
-use Rattle.mka_station.specs.declared.verdict.Verdict.TheVariants as verdicts
 use Rattle.rx_slots.specs.declared.arrival.Arrival.{Arrival}
 use Rattle.lan_core.specs.declared.fact.Fact.{Fact}
-use Rattle.lan_core.specs.declared.fact.Fact.TheVariants.{Untaken, HeardMka, Unclaimed, Arrived}
+use Rattle.lan_core.specs.declared.fact.Fact.TheVariants.{Arrived}
 use Rattle.trace_text.specs.Words.{is_word}
 use Rattle.transcript.specs.declared.fault.FactError.{FactError}
 use Rattle.transcript.specs.declared.fault.FactError.TheVariants.{Unread}
-use Rattle.transcript.specs.inside.Reading.{parted, taken, station_of, number_of, key_of, along, why_tree, seen_tree, verdict_tree, drop_tree, shape_tree, repeated_tree, old_number_tree, lack_tree, arrival_tree, accepted_tree, refused_tree, malformed_tree, missed_tree, late_tree, untaken_tree, heard_tree, noclaim_tree, data_tree, claim_tree, plain_tree}
+use Rattle.transcript.specs.inside.Reading.{parted, taken, station_of, number_of, along, arrival_tree, accepted_tree, refused_tree, malformed_tree, missed_tree, late_tree, data_tree, claim_tree, plain_tree}
 use Rattle.transcript.specs.inside.Taking.{Takes, Answers}
 use Rattle.transcript.proofs.Said.{the_word}
 
@@ -24,29 +19,6 @@ tested word text letters r b e t h = ap (is_word word) (sym t) ∙ sym e ∙ h
 -- the first word, and the words behind it
 abbrev Parts : List (List ℕ) → List ℕ → List (List ℕ) → Type 0
 Parts words word left = parted words ≡ Some (word, left)
-
-pub seen : (names : List (List ℕ)) (f : Why → Fact) (words left : List (List ℕ)) (word : List ℕ) (o : Option Why) → Parts words word left
-    → is_word word (codes "seen") ≡ true → Takes f o (along names (seen_tree f) left) → Takes f o (along names (why_tree f) words)
-seen names f words left word o p t h = rw (p, t) h
-
-pub dropped : (names : List (List ℕ)) (f : Verdict → Fact) (words left : List (List ℕ)) (word : List ℕ) (o : Option Verdict) → Parts words word left
-    → is_word word (codes "drop") ≡ true → Takes f o (along names (drop_tree (λ reason. f (verdicts.Dropped reason))) left)
-    → Takes f o (along names (verdict_tree f) words)
-dropped names f words left word o p t h = rw (p, t) h
-
-pub shape : (names : List (List ℕ)) (f : DropReason → Fact) (words left : List (List ℕ)) (word : List ℕ) (o : Option DropReason) → Parts words word left
-    → is_word word (codes "shape") ≡ true → Takes f o (along names (shape_tree f) left) → Takes f o (along names (drop_tree f) words)
-shape names f words left word o p t h = rw (p, t) h
-
-pub repeated : (names : List (List ℕ)) (f : DropReason → Fact) (words left : List (List ℕ)) (word : List ℕ) (o : Option DropReason) → Parts words word left
-    → is_word word (codes "shape") ≡ false → is_word word (codes "repeated") ≡ true → Takes f o (along names (repeated_tree f) left)
-    → Takes f o (along names (drop_tree f) words)
-repeated names f words left word o p t0 t1 h = rw (p, t0, t1) h
-
-pub old_number : (names : List (List ℕ)) (f : DropReason → Fact) (words left : List (List ℕ)) (word : List ℕ) (o : Option DropReason) → Parts words word left
-    → is_word word (codes "shape") ≡ false → is_word word (codes "repeated") ≡ false → is_word word (codes "oldnumber") ≡ true
-    → Takes f o (along names (old_number_tree f) left) → Takes f o (along names (drop_tree f) words)
-old_number names f words left word o p t0 t1 t2 h = rw (p, t0, t1, t2) h
 
 pub malformed : (names : List (List ℕ)) (f : Arrival → Fact) (words left : List (List ℕ)) (word : List ℕ) (o : Option Arrival) → Parts words word left
     → is_word word (codes "malformed") ≡ true → Takes f o (along names (malformed_tree f) left) → Takes f o (along names (refused_tree f) words)
@@ -62,19 +34,6 @@ pub late : (names : List (List ℕ)) (f : Arrival → Fact) (words left : List (
     → is_word word (codes "badcheck") ≡ false → is_word word (codes "late") ≡ true → Takes f o (along names (late_tree f) left)
     → Takes f o (along names (refused_tree f) words)
 late names f words left word o p t0 t1 t2 t3 t4 h = rw (p, t0, t1, t2, t3, t4) h
-
--- the words behind the first decide what those say that a fact's first words stand before
-pub untaken : (names words w1 w2 : List (List ℕ)) (s : ℕ) (id : KeyId) (o : Option Fact) → taken (station_of names) words ≡ Some (s, w1) → key_of w1 ≡ Some (id, w2)
-    → along names (why_tree (λ why. Untaken s id why)) w2 ≡ o → along names untaken_tree words ≡ o
-untaken names words w1 w2 s id o e1 e2 h = rw (e1, e2) h
-
-pub heard : (names words w1 w2 : List (List ℕ)) (k s : ℕ) (o : Option Fact) → taken (number_of 32) words ≡ Some (k, w1) → taken (station_of names) w1 ≡ Some (s, w2)
-    → along names (verdict_tree (λ verdict. HeardMka k s verdict)) w2 ≡ o → along names heard_tree words ≡ o
-heard names words w1 w2 k s o e1 e2 h = rw (e1, e2) h
-
-pub unclaimed : (names words w1 : List (List ℕ)) (s : ℕ) (o : Option Fact) → taken (station_of names) words ≡ Some (s, w1)
-    → along names (lack_tree (λ why. Unclaimed s why)) w1 ≡ o → along names noclaim_tree words ≡ o
-unclaimed names words w1 s o e1 h = rw e1 h
 
 -- a value that was there
 pub got : {X Y : Type 0} (view : X → Y) (o : Option X) (given : Option Y) (x : X) → Takes view o given → o ≡ Some x → given ≡ Some (view x)

@@ -5,6 +5,8 @@ mod Splitting
 mod Sound
 mod Told
 mod Plain
+mod Tabled
+mod EachFact
 mod Texts
 mod Cutting
 mod Branches

@@ -1,5 +1,5 @@
 -- More names at the end change nothing of the line of a fact.
-use Rattle.std.proofs.Common.{◌≡◌, ◌<◌, ◌+◌, ℕ, zero, suc, List, [], ◌∷◌, ◌++◌, length, map, get_or, refl, ap, arith}
+use Rattle.std.proofs.Common.{◌≡◌, ◌<◌, ℕ, zero, suc, List, [], ◌∷◌, ◌++◌, length, map, get_or, refl, ap, arith}
 use Rattle.std.proofs.lemmas.List.{length-append}
 use Rattle.lan_core.specs.declared.fact.Fact.{Fact}
 use Rattle.transcript.specs.Words.{Word, text, station, number, array, octets, words, spelled, Fits}

@@ -1,11 +1,11 @@
 -- The names after a line, and what the line says under them.
-use Rattle.std.proofs.Common.{◌≡◌, ◌≢◌, ◌<◌, ◌≤◌, ◌+◌, ◌∙◌, ◌^◌, inl, inr, ℕ, zero, suc, Bool, true, false, cond, List, [], ◌∷◌, ◌++◌, length, map, get_or, refl, sym, ap, subst, arith}
-use Rattle.std.specs.Prelude.{◌⊎◌, ◌↔◌, ◌==◌, All, nat_lt, codes, Option, Some, None, is_some, IsTrue, Result, Ok, Err, IfOk, IfErr, OnErr}
+use Rattle.std.proofs.Common.{◌≡◌, ◌≢◌, ◌<◌, ◌≤◌, ◌∙◌, inl, inr, ℕ, zero, suc, Bool, true, false, cond, List, [], ◌∷◌, ◌++◌, length, map, get_or, refl, sym, ap, subst, arith}
+use Rattle.std.specs.Prelude.{◌⊎◌, ◌↔◌, ◌==◌, All, nat_lt, codes, Option, Some, None, is_some, Result, Ok, Err, IfOk, IfErr, OnErr}
 use Rattle.std.specs.List.{slice_split, onto_first}
 use Rattle.std.proofs.lemmas.Bool.{lt-ltb, ltb-true}
 use Rattle.std.proofs.lemmas.List.{length-append}
 use Rattle.std.proofs.lemmas.List.Splits.{slice_split-cons_yes, slice_split-cons_no}
-use Rattle.std.proofs.lemmas.List.Elements.{All-nil, All-cons, All-head, All-tail, All-push, All-append}
+use Rattle.std.proofs.lemmas.List.Elements.{All-head, All-tail, All-push}
 use Rattle.lan_base.specs.declared.address.Mi.{Mi}
 use Rattle.lan_base.specs.Differing.{AllDiffer, DiffersFrom}
 use Rattle.lan_base.specs.Name.{IsName, is_name}
@@ -18,14 +18,13 @@ use Rattle.transcript.specs.Words.{array, words, spelled}
 use Rattle.transcript.specs.Rendering.{Says, AreNames, IsOfFrame}
 use Rattle.transcript.specs.Naming.{Reads, IsNaming, most_named}
 use Rattle.transcript.specs.inside.Naming.{name_of, name_in, begins_as_life, grown_by, Answered}
-use Rattle.transcript.specs.inside.Reading.{member, says as says_it, and_then, kept_if, after, parted, taken, ended, member_of, station_of, is_space, along, fact_tree, life_tree, fact_in}
+use Rattle.transcript.specs.inside.Reading.{member, says as says_it, and_then, kept_if, after, parted, taken, ended, member_of, station_of, is_space, along, fact_tree, fact_in}
 use Rattle.transcript.specs.inside.Taking.{words_behind, Answers, IsForFrame}
 use Rattle.transcript.proofs.Said.{steps, kept, the_word, same_some, station_tells}
 use Rattle.transcript.proofs.Told.{station_said}
 use Rattle.transcript.proofs.ReadBack.{told, some_fact, of_frame}
-use Rattle.transcript.proofs.Sound.{line_said}
 use Rattle.transcript.proofs.Splitting.{first_of, rest_of, first_word}
-use Rattle.transcript.proofs.Texts.{line_words}
+use Rattle.transcript.proofs.Texts.{line_words, line_said}
 
 -- ---- one name more
 

@@ -1,6 +1,6 @@
 -- No word has a space or a line feed in it.
-use Rattle.std.proofs.Common.{◌≡◌, ℕ, ◌<◌, ◌^◌, Bool, true, false, List, [], get_or, refl, sym, ap, ◌∙◌, arith}
-use Rattle.std.specs.Prelude.{◌==◌, decimal}
+use Rattle.std.proofs.Common.{◌≡◌, ℕ, ◌<◌, ◌≤◌, ◌^◌, Bool, true, false, List, [], get_or, refl, sym, ap, ◌∙◌, arith}
+use Rattle.std.specs.Prelude.{◌==◌, nat_le, decimal}
 use Rattle.std.specs.List.{All, AllPass}
 use Rattle.std.specs.Char.{is_ascii_digit, is_ascii_alphanumeric, is_ascii_lowercase}
 use Rattle.std.proofs.lemmas.Bool.Decides.{nat_tests}
@@ -34,19 +34,25 @@ hex_lacks : (c : ℕ) (xs : List ℕ) → is_hex_digit c ≡ false → IsBytes x
 hex_lacks c xs none bytes =
     lacks_by is_hex_digit c (encode_lower xs) none (decode_of-ok (encode_lower xs) xs (decode_of-encode_lower xs bytes)).1
 
--- a word's number is a small one
-abbrev pub IsSmall : Word → Type 0
-IsSmall (number bits n) = n < 2 ^ 64
-IsSmall _ = Unit {0}
+-- a word's number is one of a narrow field
+abbrev pub is_narrow : Word → Bool
+is_narrow (number bits n) = nat_le (2 ^ bits) (2 ^ 64)
+is_narrow _ = true
+
+at-most : (n m : ℕ) → nat_le n m ≡ true → n ≤ m
+at-most n m e = grind (arith, nat_tests)
+
+small : (bits n : ℕ) → nat_le (2 ^ bits) (2 ^ 64) ≡ true → n < 2 ^ bits → n < 2 ^ 64
+small bits n narrow less = let few = at-most (2 ^ bits) (2 ^ 64) narrow in omega (arith, few, less)
 
 -- space and line feed
 pub spelled_lacks : (c : ℕ) (names : List (List ℕ)) (word : Word) → is_ascii_alphanumeric c ≡ false → is_ascii_lowercase c ≡ false
-    → is_ascii_digit c ≡ false → is_hex_digit c ≡ false → All IsName names → Fits names word → IsSmall word → Lacks c (spelled names word)
-spelled_lacks c names (text letters) alphanumeric lower digit hex named fit small =
+    → is_ascii_digit c ≡ false → is_hex_digit c ≡ false → All IsName names → Fits names word → is_narrow word ≡ true → Lacks c (spelled names word)
+spelled_lacks c names (text letters) alphanumeric lower digit hex named fit narrow =
     lacks_by is_ascii_lowercase c letters lower (AllPass-from_list_all is_ascii_lowercase letters fit)
-spelled_lacks c names (station s) alphanumeric lower digit hex named fit small =
+spelled_lacks c names (station s) alphanumeric lower digit hex named fit narrow =
     name_lacks c (get_or names s []) alphanumeric (All-get_or IsName names s [] fit.0 named)
-spelled_lacks c names (number bits n) alphanumeric lower digit hex named fit small =
-    lacks_by is_ascii_digit c (decimal n) digit (AllPass-from_list_all is_ascii_digit (decimal n) (decimal_digits n small))
-spelled_lacks c names (array count xs) alphanumeric lower digit hex named fit small = hex_lacks c xs hex fit.1
-spelled_lacks c names (octets xs) alphanumeric lower digit hex named fit small = hex_lacks c xs hex fit
+spelled_lacks c names (number bits n) alphanumeric lower digit hex named fit narrow =
+    lacks_by is_ascii_digit c (decimal n) digit (AllPass-from_list_all is_ascii_digit (decimal n) (decimal_digits n (small bits n narrow fit)))
+spelled_lacks c names (array count xs) alphanumeric lower digit hex named fit narrow = hex_lacks c xs hex fit.1
+spelled_lacks c names (octets xs) alphanumeric lower digit hex named fit narrow = hex_lacks c xs hex fit

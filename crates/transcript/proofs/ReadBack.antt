@@ -2,7 +2,7 @@
 use Rattle.std.proofs.Common.{◌≡◌, ℕ, ◌<◌, List, length, refl, sym, ap, subst, ◌∙◌, inl, inr}
 use Rattle.std.specs.Prelude.{◌↔◌, Option, Some, None, IsSome, Result, Ok, Err, IfOk, IfErr}
 use Rattle.lan_core.specs.declared.fact.Fact.{Fact}
-use Rattle.lan_core.specs.declared.fact.Fact.TheVariants.{Life, Ticked, Server, Dropped, Retired, Began, Installed, Untaken, Framed, HeardMka, Claimed, Unclaimed, Arrived}
+use Rattle.lan_core.specs.declared.fact.Fact.TheVariants.{Framed, HeardMka, Arrived}
 use Rattle.lan_core.specs.Run.{place}
 use Rattle.transcript.specs.Rendering.{IsFact, Says, AreNames, IsOfFrame}
 use Rattle.transcript.specs.declared.fault.FactError.{FactError}
@@ -10,8 +10,7 @@ use Rattle.transcript.specs.declared.fault.FactError.TheVariants.{Unread, Memory
 use Rattle.transcript.specs.inside.Reading.{fact_in}
 use Rattle.transcript.specs.inside.Taking.{Answers, IsForFrame}
 use Rattle.transcript.proofs.Said.{same_some}
-use Rattle.transcript.proofs.Sound.{line_said}
-use Rattle.transcript.proofs.Texts.{line_told}
+use Rattle.transcript.proofs.Texts.{line_told, line_said}
 
 abbrev same : Fact → Fact
 same fact = fact
@@ -28,19 +27,10 @@ read names line (Ok fact) answers = line_said names line fact answers
 read names line (Err fault) answers = tt
 
 placed : (names : List (List ℕ)) (fact : Fact) → IsFact names fact → place fact < length names
-placed names (Life s mi) fit = fit.1.0.0
-placed names (Ticked s at next) fit = fit.1.0.0
-placed names (Server s mi) fit = fit.1.0.0
-placed names (Dropped s id an) fit = fit.1.0.0
-placed names (Retired s id an) fit = fit.1.0.0
-placed names (Began s id an epoch cause) fit = fit.1.0.0
-placed names (Installed s id an epoch sak) fit = fit.1.0.0
-placed names (Untaken s id why) fit = fit.1.0.0
 placed names (Framed k s sec xs) fit = fit.1.1.0.0
 placed names (HeardMka k s verdict) fit = fit.1.1.0.0
-placed names (Claimed s an epoch pn) fit = fit.1.0.0
-placed names (Unclaimed s why) fit = fit.1.0.0
 placed names (Arrived k s arrival) fit = fit.1.1.0.0
+placed names _ fit = fit.1.0.0
 
 pub among : (names : List (List ℕ)) (line : List ℕ) (r : Result Fact FactError) → Answers same r (fact_in names line) → IfOk r (λ fact. place fact < length names)
 among names line (Ok fact) answers = placed names fact (line_said names line fact answers).0

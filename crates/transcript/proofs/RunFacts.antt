@@ -1,39 +1,21 @@
 -- The facts of a run are facts under the names of its stations, and are cut into its events.
-use Rattle.std.proofs.Common.{◌≡◌, ◌<◌, ◌≤◌, ◌+◌, ◌∙◌, ◌^◌, ℕ, Bool, true, false, cond, List, [], ◌∷◌, ◌++◌, length, map}
-use Rattle.std.proofs.Common.{Option, Some, None, Result, Ok, Err, refl, sym, ap, subst, inl, inr, arith, append_assoc}
-use Rattle.std.specs.Prelude.{All, IsTrue, ◌==◌, option_map, option_to_list}
-use Rattle.std.specs.List.{list_all, flat_map}
-use Rattle.std.specs.Char.{is_ascii_lowercase}
-use Rattle.std.proofs.lemmas.Bool.{cases_lt}
-use Rattle.std.proofs.lemmas.List.{append-nil, get_or_past}
+use Rattle.std.proofs.Common.{◌≡◌, ◌∙◌, ℕ, Bool, true, false, cond, List, [], ◌∷◌, ◌++◌, length, map}
+use Rattle.std.proofs.Common.{Option, Some, None, Result, Ok, Err, refl, sym, ap, subst, append_assoc}
+use Rattle.std.specs.Prelude.{All, ◌==◌, option_map, option_to_list}
+use Rattle.std.specs.List.{flat_map}
+use Rattle.std.proofs.lemmas.List.{append-nil}
 use Rattle.std.proofs.lemmas.List.Elements.{All-nil, All-cons, All-append, All-push}
 use Rattle.aes_block.specs.declared.secret.Secret.{Secret}
-use Rattle.aes_block.specs.declared.secret.Secret.TheVariants.{S128, S256}
-use Rattle.gcm_frames.specs.Tags.{is_sec, tag_text}
-use Rattle.gcm_frames.specs.declared.tag.TagRefusal.{TagRefusal}
-use Rattle.gcm_frames.specs.declared.tag.TagRefusal.TheVariants as Tag
+use Rattle.gcm_frames.specs.Tags.{is_sec}
 use Rattle.lan_base.specs.declared.address.Mi.{Mi}
-use Rattle.lan_base.specs.declared.association_number.AssociationNumber.{AssociationNumber}
-use Rattle.lan_base.specs.declared.association_number.AssociationNumber.TheVariants.{An0, An1, An2, An3}
 use Rattle.lan_base.specs.declared.frame.UserFrame.{UserFrame}
-use Rattle.lan_base.specs.declared.key_id.KeyId.{KeyId}
-use Rattle.lan_base.specs.AssociationNumbers.{number_of}
-use Rattle.rx_slots.specs.declared.arrival.Arrival.{Arrival}
-use Rattle.rx_slots.specs.declared.arrival.Arrival.TheVariants.{Accepted, Malformed, Own, Missed, BadCheck, Late}
 use Rattle.rx_slots.specs.Numbers.{answer}
-use Rattle.sak_exchange.specs.declared.change.Cause.{Cause}
-use Rattle.sak_exchange.specs.declared.change.Cause.TheVariants as Causes
 use Rattle.sak_exchange.specs.declared.change.Change.{Change}
 use Rattle.sak_exchange.specs.declared.change.Change.TheVariants as changes
-use Rattle.sak_exchange.specs.declared.change.Why.{Why}
-use Rattle.sak_exchange.specs.declared.change.Why.TheVariants as Whys
 use Rattle.sak_exchange.specs.declared.due.Seen.{Seen}
 use Rattle.sak_exchange.specs.declared.held_key.Key.{Key}
 use Rattle.mka_station.specs.declared.reaction.Reaction.{Reaction}
 use Rattle.mka_station.specs.declared.verdict.DropReason.{DropReason}
-use Rattle.mkpdu_codec.specs.declared.refusal.Refusal.TheVariants as Refusal
-use Rattle.peer_lists.specs.declared.heard.PeerRefusal.TheVariants as PeerRefusal
-use Rattle.mka_station.specs.declared.verdict.DropReason.TheVariants as Reasons
 use Rattle.mka_station.specs.declared.verdict.Verdict.{Verdict}
 use Rattle.mka_station.specs.declared.verdict.Verdict.TheVariants as verdicts
 use Rattle.mka_station.specs.Hearing.{frame_turn, judged, heard_turn, hear_turn, outcome_of, verdict_of}
@@ -44,182 +26,19 @@ use Rattle.mkpdu_codec.specs.declared.announcement.Announcement.{Announcement}
 use Rattle.lan_core.specs.declared.event.Event.{Event}
 use Rattle.lan_core.specs.declared.event.Event.TheVariants as events
 use Rattle.lan_core.specs.declared.fact.Fact.{Fact}
-use Rattle.lan_core.specs.declared.fact.Fact.TheVariants.{Life, Ticked, Server, Dropped, Retired, Began, Installed, Untaken, Framed, HeardMka, Claimed, Unclaimed, Arrived}
-use Rattle.lan_core.specs.declared.fact.Lack.{Lack}
-use Rattle.lan_core.specs.declared.fact.Lack.TheVariants.{NoKey, Exhausted}
+use Rattle.lan_core.specs.declared.fact.Fact.TheVariants.{Life, Server, Framed, HeardMka, Claimed, Unclaimed, Arrived}
+use Rattle.lan_core.specs.declared.fact.Lack.TheVariants.{NoKey}
 use Rattle.lan_core.specs.declared.settings.Settings.{Settings}
-use Rattle.lan_core.specs.Run.{Run, Happening, happened, place, facts_of, stations}
+use Rattle.lan_core.specs.Run.{Run, happened, facts_of, stations}
 use Rattle.lan_core.specs.Ledgers.{frame_at, next_frame}
 use Rattle.lan_core.specs.Lives.{Life as TheLife, life, drawn_mi, sak_in, seen_at, transmitting_at, receiving}
 use Rattle.lan_core.specs.Claims.{waiting, frame_of_claim}
 use Rattle.lan_core.specs.Expected.{expected, change_fact, reaction_facts, tick_facts, reached_facts, restart_facts, claim_fact, number_fact, lack, emit_facts}
 use Rattle.lan_core.specs.Legal.{IsStep, IsStepped}
-use Rattle.lan_core.specs.Types.{AreOctets, IsMi, IsSecret}
-use Rattle.lan_core.specs.TypedFacts.{IsTypedFact, IsTypedWhy, IsTypedReason, IsTypedVerdict, IsTypedLack, IsTypedArrival}
 use Rattle.lan_core.proofs.Public.{mapped, chained}
 use Rattle.transcript.specs.Cut.{is_first, IsEvent, cut}
 use Rattle.transcript.specs.Events.{events_of}
-use Rattle.transcript.specs.Rendering.{AllFit, IsFact}
-use Rattle.hex.specs.Hex.{IsBytes}
-use Rattle.transcript.specs.Words.{Word, Fits, text, array, words, cause_text, why_words, reason_words, verdict_words, lack_words, arrival_words, secret_word, frame_text}
 use Rattle.transcript.proofs.Cutting.{again}
-
--- ---- facts under names
-
-an-fits : (an : AssociationNumber) → number_of an < 2 ^ 2
-an-fits An0 = omega arith
-an-fits An1 = omega arith
-an-fits An2 = omega arith
-an-fits An3 = omega arith
-
-cause-fits : (cause : Cause) → IsTrue (list_all is_ascii_lowercase (cause_text cause))
-cause-fits Causes.All = refl
-cause-fits Causes.Timeout = refl
-cause-fits Causes.Flag = refl
-
-tag-fits : (refusal : TagRefusal) → IsTrue (list_all is_ascii_lowercase (tag_text refusal))
-tag-fits Tag.NotSec = refl
-tag-fits Tag.Version = refl
-tag-fits Tag.Mode = refl
-tag-fits Tag.Short = refl
-tag-fits Tag.SlWrong = refl
-
-bytes : (octets : List ℕ) → AreOctets octets → IsBytes octets
-bytes octets all i =
-    elim (cases_lt i (length octets)) [
-      | inl less ↦ all i 0 less
-      | inr past ↦ rw (get_or_past octets i 0 past) (omega arith)
-    ]
-
-mi-fits : (names : List (List ℕ)) (mi : Mi) → IsMi mi → Fits names (array 12 mi.0)
-mi-fits names mi is = (is.0, bytes mi.0 is.1)
-
-secret-fits : (names : List (List ℕ)) (sak : Secret) → IsSecret sak
-    → Fits names (secret_word sak)
-secret-fits names (S128 octets) is = (is.0, bytes octets is.1)
-secret-fits names (S256 octets) is = (is.0, bytes octets is.1)
-
-why-fits : (names : List (List ℕ)) (why : Why) → IsTypedWhy why → AllFit names (why_words why)
-why-fits names Whys.NotListed is = (refl, tt)
-why-fits names Whys.NotServer is = (refl, tt)
-why-fits names (Whys.Seen kept) is = (refl, (is, tt))
-why-fits names Whys.Retiring is = (refl, tt)
-why-fits names Whys.Suite is = (refl, tt)
-why-fits names Whys.Offset is = (refl, tt)
-why-fits names Whys.Wrap is = (refl, tt)
-
-reason-fits : (names : List (List ℕ)) (reason : DropReason) → IsTypedReason reason
-    → AllFit names (reason_words reason)
-reason-fits names (Reasons.Unspelled Refusal.NotMka) is = (refl, tt)
-reason-fits names (Reasons.Unspelled Refusal.Short) is = (refl, tt)
-reason-fits names (Reasons.Unspelled (Refusal.Shape at)) is = (refl, (is, tt))
-reason-fits names (Reasons.Unspelled (Refusal.Repeated kind)) is = (refl, (is, tt))
-reason-fits names (Reasons.Unspelled Refusal.Agility) is = (refl, tt)
-reason-fits names Reasons.CkName is = (refl, tt)
-reason-fits names Reasons.Check is = (refl, tt)
-reason-fits names (Reasons.Refused PeerRefusal.Echo) is = (refl, tt)
-reason-fits names (Reasons.Refused (PeerRefusal.OldNumber kept)) is = (refl, (is, tt))
-reason-fits names (Reasons.Refused PeerRefusal.PeersFull) is = (refl, tt)
-
-verdict-fits : (names : List (List ℕ)) (verdict : Verdict) → IsTypedVerdict verdict
-    → AllFit names (verdict_words verdict)
-verdict-fits names verdicts.Vouched is = (refl, tt)
-verdict-fits names verdicts.Unvouched is = (refl, tt)
-verdict-fits names (verdicts.Dropped reason) is = (refl, reason-fits names reason is)
-
-lack-fits : (names : List (List ℕ)) (why : Lack) → IsTypedLack why → AllFit names (lack_words why)
-lack-fits names NoKey is = (refl, tt)
-lack-fits names (Exhausted epoch) is = (refl, (is, tt))
-
-arrival-fits : (names : List (List ℕ)) (arrival : Arrival) → IsTypedArrival arrival
-    → AllFit names (arrival_words arrival)
-arrival-fits names (Accepted pn body) is = (refl, (is.0, (bytes body is.1, tt)))
-arrival-fits names (Malformed refusal) is = (refl, (tag-fits refusal, tt))
-arrival-fits names Own is = (refl, tt)
-arrival-fits names (Missed an) is = (refl, (an-fits an, tt))
-arrival-fits names BadCheck is = (refl, tt)
-arrival-fits names (Late next) is = (refl, (is, tt))
-
-sec-fits : (sec : Bool)
-    → IsTrue (list_all is_ascii_lowercase (frame_text sec))
-sec-fits true = refl
-sec-fits false = refl
-
-pub typed-fits : (names : List (List ℕ)) (fact : Fact) → IsTypedFact fact
-    → place fact < length names → length names ≤ 256 → IsFact names fact
-typed-fits names (Life s mi) is at few =
-    (refl, ((at, omega (arith, at, few)), (mi-fits names mi is, tt)))
-typed-fits names (Ticked s clock next) is at few =
-    (refl, ((at, omega (arith, at, few)), (is.0, (refl, (is.1, tt)))))
-typed-fits names (Server s None) is at few = (refl, ((at, omega (arith, at, few)), (refl, tt)))
-typed-fits names (Server s (Some mi)) is at few =
-    (refl, ((at, omega (arith, at, few)), (mi-fits names mi is, tt)))
-typed-fits names (Dropped s id an) is at few =
-    (refl, ((at, omega (arith, at, few)), (mi-fits names id.server is.0, (is.1, (refl, (an-fits an, tt))))))
-typed-fits names (Retired s id an) is at few =
-    (refl, ((at, omega (arith, at, few)), (mi-fits names id.server is.0, (is.1, (refl, (an-fits an, tt))))))
-typed-fits names (Began s id an epoch cause) is at few = (
-  refl,
-  (
-    (at, omega (arith, at, few)),
-    (
-      mi-fits names id.server is.0.0,
-      (
-        is.0.1,
-        (
-          refl,
-          (
-            an-fits an,
-            (
-              refl,
-              (
-                is.1,
-                (cause-fits cause, tt),
-              ),
-            ),
-          ),
-        ),
-      ),
-    ),
-  ),
-)
-typed-fits names (Installed s id an epoch sak) is at few = (
-  refl,
-  (
-    (at, omega (arith, at, few)),
-    (
-      mi-fits names id.server is.0.0,
-      (
-        is.0.1,
-        (
-          refl,
-          (
-            an-fits an,
-            (
-              refl,
-              (
-                is.1,
-                (refl, (secret-fits names sak is.2, tt)),
-              ),
-            ),
-          ),
-        ),
-      ),
-    ),
-  ),
-)
-typed-fits names (Untaken s id why) is at few =
-    (refl, ((at, omega (arith, at, few)), (mi-fits names id.server is.0.0, (is.0.1, why-fits names why is.1))))
-typed-fits names (Framed k s sec octets) is at few =
-    (refl, (is.0, ((at, omega (arith, at, few)), (sec-fits sec, (bytes octets is.1, tt)))))
-typed-fits names (HeardMka k s verdict) is at few =
-    (refl, (is.0, ((at, omega (arith, at, few)), verdict-fits names verdict is.1)))
-typed-fits names (Claimed s an epoch pn) is at few =
-    (refl, ((at, omega (arith, at, few)), (refl, (an-fits an, (refl, (is.0, (refl, (is.1, tt))))))))
-typed-fits names (Unclaimed s why) is at few =
-    (refl, ((at, omega (arith, at, few)), lack-fits names why is))
-typed-fits names (Arrived k s arrival) is at few =
-    (refl, (is.0, ((at, omega (arith, at, few)), arrival-fits names arrival is.1)))
 
 -- ---- facts of one event
 

@@ -1,33 +1,37 @@
--- A fact that words say has these words.
+-- A fact that words say along a sound tree has these words.
 use Rattle.std.proofs.Common.{◌≡◌, ℕ, Bool, List, [], ◌∷◌, ◌++◌, refl, sym, ap, ◌∙◌, inl, inr, subst}
-use Rattle.std.specs.Prelude.{Option, Some, IsTrue, codes, map, if◌then◌else◌}
-use Rattle.std.specs.List.{list_all, slice_split}
+use Rattle.std.specs.Prelude.{Option, Some, IsTrue, map, option_map, if◌then◌else◌}
+use Rattle.std.specs.List.{list_all}
 use Rattle.std.specs.Char.{is_ascii_lowercase}
 use Rattle.aes_block.specs.declared.secret.Secret.{Secret}
 use Rattle.lan_base.specs.declared.address.Mi.{Mi}
 use Rattle.lan_base.specs.declared.association_number.AssociationNumber.{AssociationNumber}
 use Rattle.lan_base.specs.declared.key_id.KeyId.{KeyId}
 use Rattle.sak_exchange.specs.declared.change.Cause.{Cause}
-use Rattle.sak_exchange.specs.declared.change.Why.{Why}
 use Rattle.gcm_frames.specs.declared.tag.TagRefusal.{TagRefusal}
 use Rattle.gcm_frames.specs.Tags.{tag_text}
-use Rattle.mka_station.specs.declared.verdict.DropReason.{DropReason}
-use Rattle.mka_station.specs.declared.verdict.Verdict.{Verdict}
 use Rattle.lan_core.specs.declared.fact.Fact.{Fact}
 use Rattle.trace_text.specs.Words.{is_word}
-use Rattle.transcript.specs.Words.{Word, spelled, Fits, words, an_word, key_words, server_word, secret_word, cause_text, frame_text, why_words, reason_words, verdict_words}
+use Rattle.transcript.specs.Words.{Word, spelled, Fits, words, an_word, key_words, server_word, secret_word, cause_text, causes, frame_text, secs, why_words, whys, verdict_words, lack_words, lacks}
 use Rattle.transcript.specs.Words as Words
-use Rattle.transcript.specs.Rendering.{line, joined, AllFit, Says}
-use Rattle.transcript.specs.inside.Reading.{Tree, says, text, only, station, number, an, member, key, server, secret, cause, sec, tag, why, vouch, reason, octets, nothing, parted, taken, after, key_of, ended, last_of, last_octets, station_of, number_of, an_of, member_of, server_of, secret_of, octets_of, said_by, causes, secs, tags, whys, vouches, reasons, and_then, kept_if, along, tick_tree, begin_tree, install_tree, untaken_tree, frame_tree, heard_tree, claim_tree, data_tree, plain_tree, fact_tree, is_space, fact_in}
+use Rattle.transcript.specs.Rendering.{AllFit}
+use Rattle.transcript.specs.inside.Reading.{Tree, says, text, only, station, number, an, member, key, server, secret, cause, sec, tag, spoken, octets, nothing, parted, taken, after, key_of, ended, last_of, last_octets, station_of, number_of, an_of, member_of, server_of, secret_of, octets_of, said_by, tags, and_then, kept_if, along}
 use Rattle.transcript.proofs.Said.{same_some, kept, steps, mapped, chosen, the_word, Tells, station_tells, number_tells, an_tells, member_tells, server_tells, secret_tells, octets_tells, said_each}
-use Rattle.transcript.proofs.Splitting.{joined_again}
+use Rattle.transcript.proofs.Tabled.{Back, cause-back, sec-back}
+use Rattle.transcript.specs.inside.Tables.{named}
 
 -- letters that a line may have
 abbrev AreSmall : List ℕ → Type 0
 AreSmall letters = IsTrue (list_all is_ascii_lowercase letters)
 
+-- the words of a fact are these, and those that are left
+pub record Left (names : List (List ℕ)) (before : List Word) (ws : List (List ℕ)) (fact : Fact) : Type 0 where
+  pub more : List Word
+  pub split : words fact ≡ before ++ more
+  pub back : Back names more ws
+
 -- each fact that a tree says behind these words has these words first
-abbrev Sound : List Word → Tree → Type 0
+abbrev pub Sound : List Word → Tree → Type 0
 Sound before (says fact) = words fact ≡ before
 Sound before (text letters next other) = AreSmall letters × Sound (before ++ Words.text letters ∷ []) next × Sound before other
 Sound before (only letters next) = AreSmall letters × Sound (before ++ Words.text letters ∷ []) next
@@ -41,15 +45,12 @@ Sound before (secret next) = (sak : Secret) → Sound (before ++ secret_word sak
 Sound before (cause next) = (c : Cause) → Sound (before ++ Words.text (cause_text c) ∷ []) (next c)
 Sound before (sec next) = (b : Bool) → Sound (before ++ Words.text (frame_text b) ∷ []) (next b)
 Sound before (tag next) = (t : TagRefusal) → Sound (before ++ Words.text (tag_text t) ∷ []) (next t)
-Sound before (why next) = (w : Why) (letters : List ℕ) → why_words w ≡ Words.text letters ∷ [] → Sound (before ++ Words.text letters ∷ []) (next w)
-Sound before (vouch next) = (v : Verdict) (letters : List ℕ) → verdict_words v ≡ Words.text letters ∷ [] → Sound (before ++ Words.text letters ∷ []) (next v)
-Sound before (reason next) =
-    (r : DropReason) (letters : List ℕ) → reason_words r ≡ Words.text letters ∷ [] → Sound (before ++ Words.text letters ∷ []) (next r)
+Sound before (spoken f) = (names ws : List (List ℕ)) (fact : Fact) → f ws ≡ Some fact → Left names before ws fact
 Sound before (octets f) = (xs : List ℕ) → words (f xs) ≡ before ++ Words.octets xs ∷ []
 Sound before nothing = Unit {0}
 
 -- the words of a fact are these words and then those left
-record Tell (names : List (List ℕ)) (before : List Word) (left : List (List ℕ)) (fact : Fact) : Type 0 where
+pub record Tell (names : List (List ℕ)) (before : List Word) (left : List (List ℕ)) (fact : Fact) : Type 0 where
   pub spells : map (spelled names) (words fact) ≡ map (spelled names) before ++ left
   pub fits : AllFit names (words fact)
 
@@ -134,14 +135,14 @@ lone [] word e = absurd cc
 lone (first ∷ []) word e = ap (λ w. w ∷ []) (same_some first word e)
 lone (first ∷ second ∷ words) word e = absurd cc
 
-cause_row : (names : List (List ℕ)) (word : List ℕ) (x : Cause) → said_by causes word ≡ Some x → Tells names word (Words.text (cause_text x))
+cause_row : (names : List (List ℕ)) (word : List ℕ) (x : Cause) → named cause_text causes word ≡ Some x → Tells names word (Words.text (cause_text x))
 cause_row names word x e =
-    let p = said_each (IsWord cause_text) causes word x ((refl, refl), ((refl, refl), ((refl, refl), tt))) e in
+    let p = cause-back word x e in
     record { spells = sym p.0; fits = subst AreSmall p.0 p.1 }
 
-sec_row : (names : List (List ℕ)) (word : List ℕ) (x : Bool) → said_by secs word ≡ Some x → Tells names word (Words.text (frame_text x))
+sec_row : (names : List (List ℕ)) (word : List ℕ) (x : Bool) → named frame_text secs word ≡ Some x → Tells names word (Words.text (frame_text x))
 sec_row names word x e =
-    let p = said_each (IsWord frame_text) secs word x ((refl, refl), ((refl, refl), tt)) e in
+    let p = sec-back word x e in
     record { spells = sym p.0; fits = subst AreSmall p.0 p.1 }
 
 tag_row : (names : List (List ℕ)) (word : List ℕ) (x : TagRefusal) → said_by tags word ≡ Some x → Tells names word (Words.text (tag_text x))
@@ -149,24 +150,24 @@ tag_row names word x e =
     let p = said_each (IsWord tag_text) tags word x ((refl, refl), ((refl, refl), ((refl, refl), ((refl, refl), ((refl, refl), tt))))) e in
     record { spells = sym p.0; fits = subst AreSmall p.0 p.1 }
 
--- the last word of a list of words
-abbrev IsLast : {A : Type 0} → List Word → (A → List Word) → List ℕ → A → Type 0
-IsLast front list word x = (list x ≡ front ++ Words.text word ∷ []) × AreSmall word
+map_both : (names : List (List ℕ)) (before more : List Word) → map (spelled names) (before ++ more) ≡ map (spelled names) before ++ map (spelled names) more
+map_both names [] more = refl
+map_both names (b ∷ bs) more = ap (λ ws. spelled names b ∷ ws) (map_both names bs more)
 
-why_row : (word : List ℕ) (x : Why) → said_by whys word ≡ Some x → IsLast [] why_words word x
-why_row word x e =
-    said_each (IsLast [] why_words) whys word x ((refl, refl), ((refl, refl), ((refl, refl), ((refl, refl), ((refl, refl), ((refl, refl), tt)))))) e
+all_both : (names : List (List ℕ)) (before more : List Word) → AllFit names before → AllFit names more → AllFit names (before ++ more)
+all_both names [] more fit too = too
+all_both names (b ∷ bs) more fit too = (fit.0, all_both names bs more fit.1 too)
 
-vouch_row : (word : List ℕ) (x : Verdict) → said_by vouches word ≡ Some x → IsLast [] verdict_words word x
-vouch_row word x e = said_each (IsLast [] verdict_words) vouches word x ((refl, refl), ((refl, refl), tt)) e
-
-reason_row : (word : List ℕ) (x : DropReason) → said_by reasons word ≡ Some x → IsLast [] reason_words word x
-reason_row word x e =
-    said_each (IsLast [] reason_words) reasons word x
-    ((refl, refl), ((refl, refl), ((refl, refl), ((refl, refl), ((refl, refl), ((refl, refl), ((refl, refl), tt))))))) e
+-- a value that the words left say is what a fact tells behind these words
+pub left_by : {A : Type 0} (listed : A → List Word) (read : List (List ℕ) → Option A)
+    → ((names ws : List (List ℕ)) (x : A) → read ws ≡ Some x → Back names (listed x) ws)
+    → (before : List Word) (f : A → Fact) → ((x : A) → words (f x) ≡ before ++ listed x) → Sound before (spoken (λ ws. option_map f (read ws)))
+left_by listed read back before f same = λ names ws fact e.
+    let p = mapped f (read ws) fact e in
+    record { more = listed p.0; split = ap words (sym p.2) ∙ same p.0; back = back names ws p.0 p.1 }
 
 -- what words say along a sound tree
-tells : (names : List (List ℕ)) (before : List Word) (tree : Tree) (ws : List (List ℕ)) (fact : Fact) → Sound before tree → AllFit names before
+pub tells : (names : List (List ℕ)) (before : List Word) (tree : Tree) (ws : List (List ℕ)) (fact : Fact) → Sound before tree → AllFit names before
     → along names tree ws ≡ Some fact → Tell names before ws fact
 tells names before (says given) ws fact sound fit e = at_end names before ws fact given sound fit (none_left fact given ws e)
 tells names before (text letters next other) ws fact sound fit e =
@@ -242,16 +243,16 @@ tells names before (secret next) ws fact sound fit e =
     behind names before (secret_word p.0.0) secret_of ws p.0.1 p.0.0 fact t w
     (tells names (before ++ secret_word p.0.0 ∷ []) (next p.0.0) p.0.1 fact (sound p.0.0) (all_more names before (secret_word p.0.0) fit w.fits) p.2)
 tells names before (cause next) ws fact sound fit e =
-    let p = steps (taken (said_by causes) ws) (λ x. along names (next x.0) x.1) fact e in
-    let t = took (said_by causes) ws p.0 p.1 in
+    let p = steps (taken (named cause_text causes) ws) (λ x. along names (next x.0) x.1) fact e in
+    let t = took (named cause_text causes) ws p.0 p.1 in
     let w = cause_row names t.word p.0.0 t.told in
-    behind names before (Words.text (cause_text p.0.0)) (said_by causes) ws p.0.1 p.0.0 fact t w
+    behind names before (Words.text (cause_text p.0.0)) (named cause_text causes) ws p.0.1 p.0.0 fact t w
     (tells names (before ++ Words.text (cause_text p.0.0) ∷ []) (next p.0.0) p.0.1 fact (sound p.0.0) (all_more names before (Words.text (cause_text p.0.0)) fit w.fits) p.2)
 tells names before (sec next) ws fact sound fit e =
-    let p = steps (taken (said_by secs) ws) (λ x. along names (next x.0) x.1) fact e in
-    let t = took (said_by secs) ws p.0 p.1 in
+    let p = steps (taken (named frame_text secs) ws) (λ x. along names (next x.0) x.1) fact e in
+    let t = took (named frame_text secs) ws p.0 p.1 in
     let w = sec_row names t.word p.0.0 t.told in
-    behind names before (Words.text (frame_text p.0.0)) (said_by secs) ws p.0.1 p.0.0 fact t w
+    behind names before (Words.text (frame_text p.0.0)) (named frame_text secs) ws p.0.1 p.0.0 fact t w
     (tells names (before ++ Words.text (frame_text p.0.0) ∷ []) (next p.0.0) p.0.1 fact (sound p.0.0) (all_more names before (Words.text (frame_text p.0.0)) fit w.fits) p.2)
 tells names before (tag next) ws fact sound fit e =
     let p = steps (taken (said_by tags) ws) (λ x. along names (next x.0) x.1) fact e in
@@ -259,27 +260,12 @@ tells names before (tag next) ws fact sound fit e =
     let w = tag_row names t.word p.0.0 t.told in
     behind names before (Words.text (tag_text p.0.0)) (said_by tags) ws p.0.1 p.0.0 fact t w
     (tells names (before ++ Words.text (tag_text p.0.0) ∷ []) (next p.0.0) p.0.1 fact (sound p.0.0) (all_more names before (Words.text (tag_text p.0.0)) fit w.fits) p.2)
-tells names before (why next) ws fact sound fit e =
-    let p = steps (taken (said_by whys) ws) (λ x. along names (next x.0) x.1) fact e in
-    let t = took (said_by whys) ws p.0 p.1 in
-    let r = why_row t.word p.0.0 t.told in
-    let w = letters_tell names t.word t.word refl r.1 in
-    behind names before (Words.text t.word) (said_by whys) ws p.0.1 p.0.0 fact t w
-    (tells names (before ++ Words.text t.word ∷ []) (next p.0.0) p.0.1 fact (sound p.0.0 t.word r.0) (all_more names before (Words.text t.word) fit w.fits) p.2)
-tells names before (vouch next) ws fact sound fit e =
-    let p = steps (taken (said_by vouches) ws) (λ x. along names (next x.0) x.1) fact e in
-    let t = took (said_by vouches) ws p.0 p.1 in
-    let r = vouch_row t.word p.0.0 t.told in
-    let w = letters_tell names t.word t.word refl r.1 in
-    behind names before (Words.text t.word) (said_by vouches) ws p.0.1 p.0.0 fact t w
-    (tells names (before ++ Words.text t.word ∷ []) (next p.0.0) p.0.1 fact (sound p.0.0 t.word r.0) (all_more names before (Words.text t.word) fit w.fits) p.2)
-tells names before (reason next) ws fact sound fit e =
-    let p = steps (taken (said_by reasons) ws) (λ x. along names (next x.0) x.1) fact e in
-    let t = took (said_by reasons) ws p.0 p.1 in
-    let r = reason_row t.word p.0.0 t.told in
-    let w = letters_tell names t.word t.word refl r.1 in
-    behind names before (Words.text t.word) (said_by reasons) ws p.0.1 p.0.0 fact t w
-    (tells names (before ++ Words.text t.word ∷ []) (next p.0.0) p.0.1 fact (sound p.0.0 t.word r.0) (all_more names before (Words.text t.word) fit w.fits) p.2)
+tells names before (spoken f) ws fact sound fit e =
+    let l = sound names ws fact e in
+    record {
+      spells = ap (map (spelled names)) l.split ∙ map_both names before l.more ∙ ap (λ v. map (spelled names) before ++ v) l.back.spells;
+      fits = subst (AllFit names) (sym l.split) (all_both names before l.more fit l.back.fits);
+    }
 tells names before (octets f) ws fact sound fit e =
     let p = mapped f (last_octets ws) fact e in
     let q = steps (last_of ws) octets_of p.0 p.1 in
@@ -288,100 +274,3 @@ tells names before (octets f) ws fact sound fit e =
     (earlier names before (Words.octets p.0) q.0 [] fact w
     (at_end names (before ++ Words.octets p.0 ∷ []) [] fact (f p.0) (sound p.0) (all_more names before (Words.octets p.0) fit w.fits) (refl, p.2)))
 tells names before nothing ws fact sound fit e = absurd cc
-
-untaken_sound : Sound (Words.text (codes "untaken") ∷ []) untaken_tree
-untaken_sound = λ s id. (refl, λ kept. refl, λ w letters e. ap (λ ws. Words.text (codes "untaken") ∷ Words.station s ∷ key_words id ws) e)
-
-heard_sound : Sound (Words.text (codes "heard") ∷ []) heard_tree
-heard_sound = λ k s. (
-  refl,
-  (
-    refl,
-    λ at. refl,
-    (
-      refl,
-      λ kind. refl,
-      (
-        refl,
-        λ kept. refl,
-        λ r letters e. ap (λ ws. Words.text (codes "heard") ∷ Words.number 32 k ∷ Words.station s ∷ Words.text (codes "drop") ∷ ws) e,
-      ),
-    ),
-  ),
-  λ v letters e. ap (λ ws. Words.text (codes "heard") ∷ Words.number 32 k ∷ Words.station s ∷ ws) e,
-)
-
-data_sound : Sound (Words.text (codes "data") ∷ []) data_tree
-data_sound = λ k s. (
-  refl,
-  λ pn xs. refl,
-  (refl, λ t. refl, (refl, refl, (refl, λ an. refl, (refl, refl, (refl, λ next. refl, tt))))),
-)
-
-frame_sound : Sound (Words.text (codes "frame") ∷ []) frame_tree
-frame_sound = λ k s b xs. refl
-
-tick_sound : Sound (Words.text (codes "tick") ∷ []) tick_tree
-tick_sound = λ s at. (refl, λ next. refl)
-
-begin_sound : Sound (Words.text (codes "begin") ∷ []) begin_tree
-begin_sound = λ s id. (refl, λ an. (refl, λ epoch c. refl))
-
-install_sound : Sound (Words.text (codes "install") ∷ []) install_tree
-install_sound = λ s id. (refl, λ an. (refl, λ epoch. (refl, λ sak. refl)))
-
-claim_sound : Sound (Words.text (codes "claim") ∷ []) claim_tree
-claim_sound = λ s. (refl, λ an. (refl, λ epoch. (refl, λ pn. refl)))
-
-plain_sound : Sound [] plain_tree
-plain_sound = (
-  refl,
-  λ s mi. refl,
-  (
-    refl,
-    tick_sound,
-    (
-      refl,
-      λ s mi. refl,
-      (
-        refl,
-        λ s id. (refl, λ an. refl),
-        (
-          refl,
-          λ s id. (refl, λ an. refl),
-          (
-            refl,
-            begin_sound,
-            (
-              refl,
-              install_sound,
-              (
-                refl,
-                untaken_sound,
-                (
-                  refl,
-                  heard_sound,
-                  (
-                    refl,
-                    claim_sound,
-                    (refl, λ s. (refl, refl, (refl, λ epoch. refl, tt)), tt),
-                  ),
-                ),
-              ),
-            ),
-          ),
-        ),
-      ),
-    ),
-  ),
-)
-
-sound_tree : Sound [] fact_tree
-sound_tree = (refl, frame_sound, (refl, data_sound, plain_sound))
-
--- the fact that a line says has that line
-pub line_said : (names : List (List ℕ)) (written : List ℕ) (fact : Fact) → fact_in names written ≡ Some fact → Says names written fact
-unfolding line
-line_said names written fact e =
-    let t = tells names [] fact_tree (slice_split is_space written) fact sound_tree tt e in
-    (t.fits, ap joined t.spells ∙ joined_again written)

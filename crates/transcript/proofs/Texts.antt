@@ -1,32 +1,25 @@
 -- A text of facts says the facts.
-use Rattle.std.proofs.Common.{◌≡◌, ℕ, Bool, false, List, [], ◌∷◌, ◌++◌, refl, sym, ap, ◌∙◌, arith, append_assoc}
+use Rattle.std.proofs.Common.{◌≡◌, ℕ, Bool, true, false, List, [], ◌∷◌, ◌++◌, refl, sym, ap, ◌∙◌, append_assoc}
 use Rattle.std.specs.Prelude.{◌==◌, Option, Some, None, map}
-use Rattle.std.specs.List.{All, slice_split}
+use Rattle.std.specs.List.{All, list_all, slice_split}
 use Rattle.std.proofs.lemmas.List.{append-nil}
 use Rattle.std.proofs.lemmas.List.Elements.{All-cons, All-append, All-nil, All-head, All-tail}
 use Rattle.std.proofs.lemmas.List.Splits.{slice_split_none, slice_split_at}
 use Rattle.lan_base.specs.Name.{IsName}
 use Rattle.std.specs.Char.{is_ascii_digit, is_ascii_alphanumeric, is_ascii_lowercase}
 use Rattle.hex.specs.Hex.{is_hex_digit}
-use Rattle.aes_block.specs.declared.secret.Secret.{Secret}
-use Rattle.aes_block.specs.declared.secret.Secret.TheVariants.{S128, S256}
-use Rattle.lan_base.specs.declared.address.Mi.{Mi}
-use Rattle.sak_exchange.specs.declared.change.Why.TheVariants as Why
-use Rattle.mkpdu_codec.specs.declared.refusal.Refusal.TheVariants as Refusal
-use Rattle.peer_lists.specs.declared.heard.PeerRefusal.TheVariants as PeerRefusal
-use Rattle.mka_station.specs.declared.verdict.DropReason.TheVariants as Reason
-use Rattle.mka_station.specs.declared.verdict.Verdict.TheVariants as Verdict
-use Rattle.rx_slots.specs.declared.arrival.Arrival.TheVariants as Arrival
-use Rattle.lan_core.specs.declared.fact.Lack.TheVariants as Lack
 use Rattle.lan_core.specs.declared.fact.Fact.{Fact}
-use Rattle.lan_core.specs.declared.fact.Fact.TheVariants.{Life, Ticked, Server, Dropped, Retired, Began, Installed, Untaken, Framed, HeardMka, Claimed, Unclaimed, Arrived}
+use Rattle.lan_core.specs.declared.fact.Fact.TheVariants.{Life}
 use Rattle.trace_text.specs.Words.{spaced}
-use Rattle.transcript.specs.Words.{Word, text, words, spelled, server_word, secret_word}
+use Rattle.transcript.specs.Words.{Word, text, words, spelled, Fits}
 use Rattle.lan_base.specs.Differing.{AllDiffer}
-use Rattle.transcript.specs.Rendering.{joined, line, transcript, AllFit, IsFact}
+use Rattle.transcript.specs.Rendering.{joined, line, transcript, AllFit, IsFact, Says}
 use Rattle.transcript.specs.inside.Reading.{fact_in, along, fact_tree}
-use Rattle.transcript.proofs.Plain.{Lacks, IsSmall, spelled_lacks}
-use Rattle.transcript.proofs.Told.{fact_told}
+use Rattle.transcript.proofs.Pairs.{both}
+use Rattle.transcript.proofs.Plain.{Lacks, is_narrow, spelled_lacks}
+use Rattle.transcript.proofs.Splitting.{joined_again}
+use Rattle.transcript.proofs.Sound.{tells}
+use Rattle.transcript.proofs.EachFact.{fact_told, narrow, sound_tree}
 
 abbrev is_space : ℕ → Bool
 is_space octet = octet == 32
@@ -38,15 +31,13 @@ abbrev AllLack : ℕ → List (List ℕ) → Type 0
 AllLack c [] = Unit {0}
 AllLack c (word ∷ others) = Lacks c word × AllLack c others
 
-abbrev AllSmall : List Word → Type 0
-AllSmall [] = Unit {0}
-AllSmall (word ∷ others) = IsSmall word × AllSmall others
-
 all_lack : (c : ℕ) (names : List (List ℕ)) (ws : List Word)
-    → ((word : Word) → AllFit names (word ∷ []) → IsSmall word → Lacks c (spelled names word))
-    → AllFit names ws → AllSmall ws → AllLack c (map (spelled names) ws)
+    → ((word : Word) → Fits names word → is_narrow word ≡ true → Lacks c (spelled names word))
+    → AllFit names ws → list_all is_narrow ws ≡ true → AllLack c (map (spelled names) ws)
 all_lack c names [] lacks fit small = tt
-all_lack c names (word ∷ ws) lacks fit small = (lacks word (fit.0, tt) small.0, all_lack c names ws lacks fit.1 small.1)
+all_lack c names (word ∷ ws) lacks fit small =
+    let p = both (is_narrow word) (list_all is_narrow ws) small in
+    (lacks word fit.0 p.0, all_lack c names ws lacks fit.1 p.1)
 
 -- words between single spaces are the words again
 pub split_words : (first : List ℕ) (others : List (List ℕ)) → Lacks 32 first → AllLack 32 others
@@ -69,52 +60,6 @@ joined_lacks c apart (word ∷ others) o =
 pub joined_splits : (word : List ℕ) (ws : List (List ℕ)) → AllLack 32 (word ∷ ws) → slice_split is_space (joined (word ∷ ws)) ≡ word ∷ ws
 joined_splits word ws o = split_words word ws o.0 o.1
 
-small_server : (mi : Option Mi) → IsSmall (server_word mi)
-small_server None = tt
-small_server (Some mi) = tt
-
-small_secret : (sak : Secret) → IsSmall (secret_word sak)
-small_secret (S128 xs) = tt
-small_secret (S256 xs) = tt
-
-fact_small : (names : List (List ℕ)) (fact : Fact) → IsFact names fact → AllSmall (words fact)
-fact_small names (Life s mi) fit = (tt, (tt, (tt, tt)))
-fact_small names (Ticked s at next) fit = (tt, (tt, (omega (arith, fit.1.1.0), (tt, (omega (arith, fit.1.1.1.1.0), tt)))))
-fact_small names (Server s mi) fit = (tt, (tt, (small_server mi, tt)))
-fact_small names (Dropped s id an) fit = (tt, (tt, (tt, (omega (arith, fit.1.1.1.0), (tt, (omega (arith, fit.1.1.1.1.1.0), tt))))))
-fact_small names (Retired s id an) fit = (tt, (tt, (tt, (omega (arith, fit.1.1.1.0), (tt, (omega (arith, fit.1.1.1.1.1.0), tt))))))
-fact_small names (Began s id an epoch cause) fit = (tt, (tt, (tt, (omega (arith, fit.1.1.1.0), (tt, (omega (arith, fit.1.1.1.1.1.0), (tt, (omega (arith, fit.1.1.1.1.1.1.1.0), (tt, tt)))))))))
-fact_small names (Installed s id an epoch sak) fit = (tt, (tt, (tt, (omega (arith, fit.1.1.1.0), (tt, (omega (arith, fit.1.1.1.1.1.0), (tt, (omega (arith, fit.1.1.1.1.1.1.1.0), (tt, (small_secret sak, tt))))))))))
-fact_small names (Untaken s id Why.NotListed) fit = (tt, (tt, (tt, (omega (arith, fit.1.1.1.0), (tt, tt)))))
-fact_small names (Untaken s id Why.NotServer) fit = (tt, (tt, (tt, (omega (arith, fit.1.1.1.0), (tt, tt)))))
-fact_small names (Untaken s id Why.Retiring) fit = (tt, (tt, (tt, (omega (arith, fit.1.1.1.0), (tt, tt)))))
-fact_small names (Untaken s id Why.Suite) fit = (tt, (tt, (tt, (omega (arith, fit.1.1.1.0), (tt, tt)))))
-fact_small names (Untaken s id Why.Offset) fit = (tt, (tt, (tt, (omega (arith, fit.1.1.1.0), (tt, tt)))))
-fact_small names (Untaken s id Why.Wrap) fit = (tt, (tt, (tt, (omega (arith, fit.1.1.1.0), (tt, tt)))))
-fact_small names (Untaken s id (Why.Seen kept)) fit = (tt, (tt, (tt, (omega (arith, fit.1.1.1.0), (tt, (omega (arith, fit.1.1.1.1.1.0), tt))))))
-fact_small names (Framed k s sec xs) fit = (tt, (omega (arith, fit.1.0), (tt, (tt, (tt, tt)))))
-fact_small names (HeardMka k s Verdict.Vouched) fit = (tt, (omega (arith, fit.1.0), (tt, (tt, tt))))
-fact_small names (HeardMka k s Verdict.Unvouched) fit = (tt, (omega (arith, fit.1.0), (tt, (tt, tt))))
-fact_small names (HeardMka k s (Verdict.Dropped (Reason.Unspelled Refusal.NotMka))) fit = (tt, (omega (arith, fit.1.0), (tt, (tt, (tt, tt)))))
-fact_small names (HeardMka k s (Verdict.Dropped (Reason.Unspelled Refusal.Short))) fit = (tt, (omega (arith, fit.1.0), (tt, (tt, (tt, tt)))))
-fact_small names (HeardMka k s (Verdict.Dropped (Reason.Unspelled Refusal.Agility))) fit = (tt, (omega (arith, fit.1.0), (tt, (tt, (tt, tt)))))
-fact_small names (HeardMka k s (Verdict.Dropped Reason.CkName)) fit = (tt, (omega (arith, fit.1.0), (tt, (tt, (tt, tt)))))
-fact_small names (HeardMka k s (Verdict.Dropped Reason.Check)) fit = (tt, (omega (arith, fit.1.0), (tt, (tt, (tt, tt)))))
-fact_small names (HeardMka k s (Verdict.Dropped (Reason.Refused PeerRefusal.Echo))) fit = (tt, (omega (arith, fit.1.0), (tt, (tt, (tt, tt)))))
-fact_small names (HeardMka k s (Verdict.Dropped (Reason.Refused PeerRefusal.PeersFull))) fit = (tt, (omega (arith, fit.1.0), (tt, (tt, (tt, tt)))))
-fact_small names (HeardMka k s (Verdict.Dropped (Reason.Unspelled (Refusal.Shape at)))) fit = (tt, (omega (arith, fit.1.0), (tt, (tt, (tt, (omega (arith, fit.1.1.1.1.1.0), tt))))))
-fact_small names (HeardMka k s (Verdict.Dropped (Reason.Unspelled (Refusal.Repeated kind)))) fit = (tt, (omega (arith, fit.1.0), (tt, (tt, (tt, (omega (arith, fit.1.1.1.1.1.0), tt))))))
-fact_small names (HeardMka k s (Verdict.Dropped (Reason.Refused (PeerRefusal.OldNumber kept)))) fit = (tt, (omega (arith, fit.1.0), (tt, (tt, (tt, (omega (arith, fit.1.1.1.1.1.0), tt))))))
-fact_small names (Claimed s an epoch pn) fit = (tt, (tt, (tt, (omega (arith, fit.1.1.1.0), (tt, (omega (arith, fit.1.1.1.1.1.0), (tt, (omega (arith, fit.1.1.1.1.1.1.1.0), tt))))))))
-fact_small names (Unclaimed s Lack.NoKey) fit = (tt, (tt, (tt, tt)))
-fact_small names (Unclaimed s (Lack.Exhausted epoch)) fit = (tt, (tt, (tt, (omega (arith, fit.1.1.1.0), tt))))
-fact_small names (Arrived k s (Arrival.Accepted pn body)) fit = (tt, (omega (arith, fit.1.0), (tt, (tt, (omega (arith, fit.1.1.1.1.0), (tt, tt))))))
-fact_small names (Arrived k s (Arrival.Malformed refusal)) fit = (tt, (omega (arith, fit.1.0), (tt, (tt, (tt, tt)))))
-fact_small names (Arrived k s Arrival.Own) fit = (tt, (omega (arith, fit.1.0), (tt, (tt, tt))))
-fact_small names (Arrived k s (Arrival.Missed an)) fit = (tt, (omega (arith, fit.1.0), (tt, (tt, (omega (arith, fit.1.1.1.1.0), tt)))))
-fact_small names (Arrived k s Arrival.BadCheck) fit = (tt, (omega (arith, fit.1.0), (tt, (tt, tt))))
-fact_small names (Arrived k s (Arrival.Late next)) fit = (tt, (omega (arith, fit.1.0), (tt, (tt, (omega (arith, fit.1.1.1.1.0), tt)))))
-
 -- the first word of a fact, and the others
 abbrev first : List Word → Word
 first [] = text []
@@ -129,23 +74,12 @@ IsSome ws = ws ≡ first ws ∷ others ws
 
 some_words : (fact : Fact) → IsSome (words fact)
 some_words (Life s mi) = refl
-some_words (Ticked s at next) = refl
-some_words (Server s mi) = refl
-some_words (Dropped s id an) = refl
-some_words (Retired s id an) = refl
-some_words (Began s id an epoch cause) = refl
-some_words (Installed s id an epoch sak) = refl
-some_words (Untaken s id why) = refl
-some_words (Framed k s sec xs) = refl
-some_words (HeardMka k s verdict) = refl
-some_words (Claimed s an epoch pn) = refl
-some_words (Unclaimed s why) = refl
-some_words (Arrived k s arrival) = refl
+some_words _ = refl
 
 all_plain : (c : ℕ) (names : List (List ℕ)) (fact : Fact) → is_ascii_alphanumeric c ≡ false → is_ascii_lowercase c ≡ false
     → is_ascii_digit c ≡ false → is_hex_digit c ≡ false → All IsName names → IsFact names fact → AllLack c (map (spelled names) (words fact))
 all_plain c names fact a l d h named fit =
-    all_lack c names (words fact) (λ word f small. spelled_lacks c names word a l d h named f.0 small) fit (fact_small names fact fit)
+    all_lack c names (words fact) (λ word f small. spelled_lacks c names word a l d h named f small) fit (narrow fact)
 
 split_some : (names : List (List ℕ)) (ws : List Word) → IsSome ws → AllLack 32 (map (spelled names) ws)
     → slice_split is_space (joined (map (spelled names) ws)) ≡ map (spelled names) ws
@@ -163,6 +97,13 @@ line_words names fact named fit =
 pub line_told : (names : List (List ℕ)) (fact : Fact) → All IsName names → AllDiffer names → IsFact names fact → fact_in names (line names fact) ≡ Some fact
 line_told names fact named d fit =
     ap (along names fact_tree) (line_words names fact named fit) ∙ fact_told names fact d fit
+
+-- the fact that a line says has that line
+pub line_said : (names : List (List ℕ)) (written : List ℕ) (fact : Fact) → fact_in names written ≡ Some fact → Says names written fact
+unfolding line
+line_said names written fact e =
+    let t = tells names [] fact_tree (slice_split is_space written) fact sound_tree tt e in
+    (t.fits, ap joined t.spells ∙ joined_again written)
 
 -- a line has no line feed and no carriage return in it
 pub line_lacks : (names : List (List ℕ)) (fact : Fact) → All IsName names → IsFact names fact → Lacks 10 (line names fact)

@@ -1,7 +1,7 @@
--- The words of a fact say the fact.
+-- The words that are spelled of a value say the value.
 use Rattle.std.proofs.Common.{◌≡◌, ℕ, zero, suc, ◌+◌, ◌<◌, ◌^◌, Bool, true, false, List, [], ◌∷◌, length, get_or, refl, ap, ◌∙◌, arith}
 use Rattle.std.specs.Option.{option_map}
-use Rattle.std.specs.Prelude.{◌≢◌, ◌==◌, nat_lt, Option, Some, None, decimal, map, codes}
+use Rattle.std.specs.Prelude.{◌≢◌, ◌==◌, nat_lt, Option, Some, None, decimal, codes}
 use Rattle.std.proofs.lemmas.Bool.Decides.{nat_tests}
 use Rattle.std.proofs.lemmas.Fmt.{decimal_is_IsNumeral}
 use Rattle.std.proofs.lemmas.Slice.Eq.{bytes_eq-Decides}
@@ -13,22 +13,10 @@ use Rattle.lan_base.specs.declared.address.Mi.{Mi}
 use Rattle.lan_base.specs.declared.association_number.AssociationNumber.{AssociationNumber}
 use Rattle.lan_base.specs.AssociationNumbers as Associations
 use Rattle.lan_base.proofs.Public.{number_of-few, numbered-number_of}
-use Rattle.sak_exchange.specs.declared.change.Cause.TheVariants as Cause
-use Rattle.sak_exchange.specs.declared.change.Why.TheVariants as Why
-use Rattle.gcm_frames.specs.declared.tag.TagRefusal.TheVariants as Tag
-use Rattle.mkpdu_codec.specs.declared.refusal.Refusal.TheVariants as Refusal
-use Rattle.peer_lists.specs.declared.heard.PeerRefusal.TheVariants as PeerRefusal
-use Rattle.mka_station.specs.declared.verdict.DropReason.TheVariants as Reason
-use Rattle.mka_station.specs.declared.verdict.Verdict.TheVariants as Verdict
-use Rattle.rx_slots.specs.declared.arrival.Arrival.TheVariants as Arrival
-use Rattle.lan_core.specs.declared.fact.Fact.{Fact}
-use Rattle.lan_core.specs.declared.fact.Fact.TheVariants.{Life, Ticked, Server, Dropped, Retired, Began, Installed, Untaken, Framed, HeardMka, Claimed, Unclaimed, Arrived}
-use Rattle.lan_core.specs.declared.fact.Lack.TheVariants as Lack
 use Rattle.trace_text.specs.Words.{is_word}
-use Rattle.transcript.specs.Words.{spelled, Fits, words, server_word, secret_word}
+use Rattle.transcript.specs.Words.{spelled, Fits, server_word, secret_word}
 use Rattle.lan_base.specs.Differing.{DiffersFrom, AllDiffer}
-use Rattle.transcript.specs.Rendering.{IsFact}
-use Rattle.transcript.specs.inside.Reading.{place_of, station_of, whole_of, number_of, an_of, octets_of, array_of, member_of, server_of, secret_of, along, fact_tree}
+use Rattle.transcript.specs.inside.Reading.{place_of, station_of, whole_of, number_of, an_of, octets_of, array_of, member_of, server_of, secret_of}
 use Rattle.transcript.proofs.Pairs.{pairs_written}
 
 pub same_word : (word : List ℕ) → is_word word word ≡ true
@@ -88,7 +76,7 @@ array_said count xs fit =
     let test : (length xs == count) ≡ true = grind (arith, nat_tests, fit.0) in
     rw (octets_said xs fit.1, test) refl
 
-member_said : (mi : Mi) → (length mi.0 ≡ 12) × IsBytes mi.0 → member_of (encode_lower mi.0) ≡ Some mi
+pub member_said : (mi : Mi) → (length mi.0 ≡ 12) × IsBytes mi.0 → member_of (encode_lower mi.0) ≡ Some mi
 member_said mi fit = ap (option_map (λ xs. record { 0 = xs })) (array_said 12 mi.0 fit)
 
 long : (xs : List ℕ) → length xs ≡ 12 → encode_lower xs ≢ codes "none"
@@ -106,52 +94,3 @@ secret_said names (S256 xs) fit =
     let none : (length xs == 16) ≡ false = grind (arith, nat_tests, fit.0) in
     let other : array_of 16 (encode_lower xs) ≡ None = rw (octets_said xs fit.1, none) refl in
     rw (other, array_said 32 xs fit) refl
-
-abbrev pub told : List (List ℕ) → Fact → Option Fact
-told names fact = along names fact_tree (map (spelled names) (words fact))
-
--- a fact is told by its words
-pub fact_told : (names : List (List ℕ)) (fact : Fact) → AllDiffer names → IsFact names fact → told names fact ≡ Some fact
-fact_told names (Life s mi) d fit = rw (station_said names s d fit.1.0, member_said mi fit.1.1.0) refl
-fact_told names (Ticked s at next) d fit = rw (station_said names s d fit.1.0, number_said 32 at (omega (arith, fit.1.1.0)) fit.1.1.0, number_said 64 next (omega (arith, fit.1.1.1.1.0)) fit.1.1.1.1.0) refl
-fact_told names (Server s mi) d fit = rw (station_said names s d fit.1.0, server_said names mi fit.1.1.0) refl
-fact_told names (Dropped s id an) d fit = rw (station_said names s d fit.1.0, member_said id.server fit.1.1.0, number_said 32 id.number (omega (arith, fit.1.1.1.0)) fit.1.1.1.0, an_said an) refl
-fact_told names (Retired s id an) d fit = rw (station_said names s d fit.1.0, member_said id.server fit.1.1.0, number_said 32 id.number (omega (arith, fit.1.1.1.0)) fit.1.1.1.0, an_said an) refl
-fact_told names (Began s id an epoch Cause.All) d fit = rw (station_said names s d fit.1.0, member_said id.server fit.1.1.0, number_said 32 id.number (omega (arith, fit.1.1.1.0)) fit.1.1.1.0, an_said an, number_said 32 epoch (omega (arith, fit.1.1.1.1.1.1.1.0)) fit.1.1.1.1.1.1.1.0) refl
-fact_told names (Began s id an epoch Cause.Timeout) d fit = rw (station_said names s d fit.1.0, member_said id.server fit.1.1.0, number_said 32 id.number (omega (arith, fit.1.1.1.0)) fit.1.1.1.0, an_said an, number_said 32 epoch (omega (arith, fit.1.1.1.1.1.1.1.0)) fit.1.1.1.1.1.1.1.0) refl
-fact_told names (Began s id an epoch Cause.Flag) d fit = rw (station_said names s d fit.1.0, member_said id.server fit.1.1.0, number_said 32 id.number (omega (arith, fit.1.1.1.0)) fit.1.1.1.0, an_said an, number_said 32 epoch (omega (arith, fit.1.1.1.1.1.1.1.0)) fit.1.1.1.1.1.1.1.0) refl
-fact_told names (Installed s id an epoch sak) d fit = rw (station_said names s d fit.1.0, member_said id.server fit.1.1.0, number_said 32 id.number (omega (arith, fit.1.1.1.0)) fit.1.1.1.0, an_said an, number_said 32 epoch (omega (arith, fit.1.1.1.1.1.1.1.0)) fit.1.1.1.1.1.1.1.0, secret_said names sak fit.1.1.1.1.1.1.1.1.1.0) refl
-fact_told names (Untaken s id Why.NotListed) d fit = rw (station_said names s d fit.1.0, member_said id.server fit.1.1.0, number_said 32 id.number (omega (arith, fit.1.1.1.0)) fit.1.1.1.0) refl
-fact_told names (Untaken s id Why.NotServer) d fit = rw (station_said names s d fit.1.0, member_said id.server fit.1.1.0, number_said 32 id.number (omega (arith, fit.1.1.1.0)) fit.1.1.1.0) refl
-fact_told names (Untaken s id Why.Retiring) d fit = rw (station_said names s d fit.1.0, member_said id.server fit.1.1.0, number_said 32 id.number (omega (arith, fit.1.1.1.0)) fit.1.1.1.0) refl
-fact_told names (Untaken s id Why.Suite) d fit = rw (station_said names s d fit.1.0, member_said id.server fit.1.1.0, number_said 32 id.number (omega (arith, fit.1.1.1.0)) fit.1.1.1.0) refl
-fact_told names (Untaken s id Why.Offset) d fit = rw (station_said names s d fit.1.0, member_said id.server fit.1.1.0, number_said 32 id.number (omega (arith, fit.1.1.1.0)) fit.1.1.1.0) refl
-fact_told names (Untaken s id Why.Wrap) d fit = rw (station_said names s d fit.1.0, member_said id.server fit.1.1.0, number_said 32 id.number (omega (arith, fit.1.1.1.0)) fit.1.1.1.0) refl
-fact_told names (Untaken s id (Why.Seen kept)) d fit = rw (station_said names s d fit.1.0, member_said id.server fit.1.1.0, number_said 32 id.number (omega (arith, fit.1.1.1.0)) fit.1.1.1.0, number_said 32 kept (omega (arith, fit.1.1.1.1.1.0)) fit.1.1.1.1.1.0) refl
-fact_told names (Framed k s true xs) d fit = rw (number_said 32 k (omega (arith, fit.1.0)) fit.1.0, station_said names s d fit.1.1.0, octets_said xs fit.1.1.1.1.0) refl
-fact_told names (Framed k s false xs) d fit = rw (number_said 32 k (omega (arith, fit.1.0)) fit.1.0, station_said names s d fit.1.1.0, octets_said xs fit.1.1.1.1.0) refl
-fact_told names (HeardMka k s Verdict.Vouched) d fit = rw (number_said 32 k (omega (arith, fit.1.0)) fit.1.0, station_said names s d fit.1.1.0) refl
-fact_told names (HeardMka k s Verdict.Unvouched) d fit = rw (number_said 32 k (omega (arith, fit.1.0)) fit.1.0, station_said names s d fit.1.1.0) refl
-fact_told names (HeardMka k s (Verdict.Dropped (Reason.Unspelled Refusal.NotMka))) d fit = rw (number_said 32 k (omega (arith, fit.1.0)) fit.1.0, station_said names s d fit.1.1.0) refl
-fact_told names (HeardMka k s (Verdict.Dropped (Reason.Unspelled Refusal.Short))) d fit = rw (number_said 32 k (omega (arith, fit.1.0)) fit.1.0, station_said names s d fit.1.1.0) refl
-fact_told names (HeardMka k s (Verdict.Dropped (Reason.Unspelled Refusal.Agility))) d fit = rw (number_said 32 k (omega (arith, fit.1.0)) fit.1.0, station_said names s d fit.1.1.0) refl
-fact_told names (HeardMka k s (Verdict.Dropped Reason.CkName)) d fit = rw (number_said 32 k (omega (arith, fit.1.0)) fit.1.0, station_said names s d fit.1.1.0) refl
-fact_told names (HeardMka k s (Verdict.Dropped Reason.Check)) d fit = rw (number_said 32 k (omega (arith, fit.1.0)) fit.1.0, station_said names s d fit.1.1.0) refl
-fact_told names (HeardMka k s (Verdict.Dropped (Reason.Refused PeerRefusal.Echo))) d fit = rw (number_said 32 k (omega (arith, fit.1.0)) fit.1.0, station_said names s d fit.1.1.0) refl
-fact_told names (HeardMka k s (Verdict.Dropped (Reason.Refused PeerRefusal.PeersFull))) d fit = rw (number_said 32 k (omega (arith, fit.1.0)) fit.1.0, station_said names s d fit.1.1.0) refl
-fact_told names (HeardMka k s (Verdict.Dropped (Reason.Unspelled (Refusal.Shape at)))) d fit = rw (number_said 32 k (omega (arith, fit.1.0)) fit.1.0, station_said names s d fit.1.1.0, number_said 64 at (omega (arith, fit.1.1.1.1.1.0)) fit.1.1.1.1.1.0) refl
-fact_told names (HeardMka k s (Verdict.Dropped (Reason.Unspelled (Refusal.Repeated kind)))) d fit = rw (number_said 32 k (omega (arith, fit.1.0)) fit.1.0, station_said names s d fit.1.1.0, number_said 8 kind (omega (arith, fit.1.1.1.1.1.0)) fit.1.1.1.1.1.0) refl
-fact_told names (HeardMka k s (Verdict.Dropped (Reason.Refused (PeerRefusal.OldNumber kept)))) d fit = rw (number_said 32 k (omega (arith, fit.1.0)) fit.1.0, station_said names s d fit.1.1.0, number_said 32 kept (omega (arith, fit.1.1.1.1.1.0)) fit.1.1.1.1.1.0) refl
-fact_told names (Claimed s an epoch pn) d fit = rw (station_said names s d fit.1.0, an_said an, number_said 32 epoch (omega (arith, fit.1.1.1.1.1.0)) fit.1.1.1.1.1.0, number_said 32 pn (omega (arith, fit.1.1.1.1.1.1.1.0)) fit.1.1.1.1.1.1.1.0) refl
-fact_told names (Unclaimed s Lack.NoKey) d fit = rw (station_said names s d fit.1.0) refl
-fact_told names (Unclaimed s (Lack.Exhausted epoch)) d fit = rw (station_said names s d fit.1.0, number_said 32 epoch (omega (arith, fit.1.1.1.0)) fit.1.1.1.0) refl
-fact_told names (Arrived k s (Arrival.Accepted pn body)) d fit = rw (number_said 32 k (omega (arith, fit.1.0)) fit.1.0, station_said names s d fit.1.1.0, number_said 32 pn (omega (arith, fit.1.1.1.1.0)) fit.1.1.1.1.0, octets_said body fit.1.1.1.1.1.0) refl
-fact_told names (Arrived k s (Arrival.Malformed Tag.NotSec)) d fit = rw (number_said 32 k (omega (arith, fit.1.0)) fit.1.0, station_said names s d fit.1.1.0) refl
-fact_told names (Arrived k s (Arrival.Malformed Tag.Version)) d fit = rw (number_said 32 k (omega (arith, fit.1.0)) fit.1.0, station_said names s d fit.1.1.0) refl
-fact_told names (Arrived k s (Arrival.Malformed Tag.Mode)) d fit = rw (number_said 32 k (omega (arith, fit.1.0)) fit.1.0, station_said names s d fit.1.1.0) refl
-fact_told names (Arrived k s (Arrival.Malformed Tag.Short)) d fit = rw (number_said 32 k (omega (arith, fit.1.0)) fit.1.0, station_said names s d fit.1.1.0) refl
-fact_told names (Arrived k s (Arrival.Malformed Tag.SlWrong)) d fit = rw (number_said 32 k (omega (arith, fit.1.0)) fit.1.0, station_said names s d fit.1.1.0) refl
-fact_told names (Arrived k s Arrival.Own) d fit = rw (number_said 32 k (omega (arith, fit.1.0)) fit.1.0, station_said names s d fit.1.1.0) refl
-fact_told names (Arrived k s (Arrival.Missed an)) d fit = rw (number_said 32 k (omega (arith, fit.1.0)) fit.1.0, station_said names s d fit.1.1.0, an_said an) refl
-fact_told names (Arrived k s Arrival.BadCheck) d fit = rw (number_said 32 k (omega (arith, fit.1.0)) fit.1.0, station_said names s d fit.1.1.0) refl
-fact_told names (Arrived k s (Arrival.Late next)) d fit = rw (number_said 32 k (omega (arith, fit.1.0)) fit.1.0, station_said names s d fit.1.1.0, number_said 64 next (omega (arith, fit.1.1.1.1.0)) fit.1.1.1.1.0) refl

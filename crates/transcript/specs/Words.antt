@@ -52,6 +52,12 @@ Fits names (number bits n) = n < 2 ^ bits
 Fits names (array count xs) = (length xs ≡ count) × IsBytes xs
 Fits names (octets xs) = IsBytes xs
 
+-- a row of a table of words: a value that a word tells, or one for each number that stands behind
+-- a word
+pub data Row (A : Type 0) : Type 0 where
+  one : A → Row A
+  each : (ℕ → A) → Row A
+
 -- an association number, in two bits
 abbrev pub an_word : AssociationNumber → Word
 an_word an = number 2 (number_of an)
@@ -71,6 +77,9 @@ cause_text All = codes "all"
 cause_text Timeout = codes "timeout"
 cause_text Flag = codes "flag"
 
+abbrev pub causes : List Cause
+causes = All ∷ Timeout ∷ Flag ∷ []
+
 -- a key, of 128 or 256 bits
 abbrev pub secret_word : Secret → Word
 secret_word (S128 xs) = array 16 xs
@@ -86,10 +95,18 @@ why_words Suite = text (codes "suite") ∷ []
 why_words Offset = text (codes "offset") ∷ []
 why_words Wrap = text (codes "wrap") ∷ []
 
+abbrev pub whys : List (Row Why)
+whys =
+    one NotListed ∷ one NotServer ∷ each Seen ∷ one Retiring ∷ one Suite ∷ one Offset ∷ one Wrap
+    ∷ []
+
 -- whether a frame is a protected one
 abbrev pub frame_text : Bool → List ℕ
 frame_text true = codes "sec"
 frame_text false = codes "mka"
+
+abbrev pub secs : List Bool
+secs = true ∷ false ∷ []
 
 -- why a frame is dropped
 abbrev pub reason_words : DropReason → List Word
@@ -104,16 +121,29 @@ reason_words (Refused Echo) = text (codes "echo") ∷ []
 reason_words (Refused (OldNumber kept)) = text (codes "oldnumber") ∷ number 32 kept ∷ []
 reason_words (Refused PeersFull) = text (codes "peersfull") ∷ []
 
+abbrev pub reasons : List (Row DropReason)
+reasons =
+    one (Unspelled NotMka) ∷ one (Unspelled Short) ∷ each (λ at. Unspelled (Shape at))
+    ∷ each (λ kind. Unspelled (Repeated kind)) ∷ one (Unspelled Agility) ∷ one CkName ∷ one Check
+    ∷ one (Refused Echo) ∷ each (λ kept. Refused (OldNumber kept)) ∷ one (Refused PeersFull) ∷ []
+
 -- what hearing a frame comes to
 abbrev pub verdict_words : Verdict → List Word
 verdict_words verdicts.Vouched = text (codes "vouched") ∷ []
 verdict_words verdicts.Unvouched = text (codes "unvouched") ∷ []
 verdict_words (verdicts.Dropped reason) = text (codes "drop") ∷ reason_words reason
 
+-- those of an accepted frame
+abbrev pub vouches : List (Row Verdict)
+vouches = one verdicts.Vouched ∷ one verdicts.Unvouched ∷ []
+
 -- why a station got no packet number
 abbrev pub lack_words : Lack → List Word
 lack_words NoKey = text (codes "nokey") ∷ []
 lack_words (Exhausted epoch) = text (codes "exhausted") ∷ number 32 epoch ∷ []
+
+abbrev pub lacks : List (Row Lack)
+lacks = one NoKey ∷ each Exhausted ∷ []
 
 -- the answer to a protected frame
 abbrev pub arrival_words : Arrival → List Word

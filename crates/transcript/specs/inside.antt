@@ -4,3 +4,4 @@ pub mod Reading
 pub mod Taking
 pub mod Naming
 pub mod Numerals
+pub mod Tables

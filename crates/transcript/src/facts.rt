@@ -1,32 +1,70 @@
-//! The kinds of facts: what the words behind a line's first say. Each is shown with its line.
+//! The kinds of facts, by the first word of a line, and what the words behind it say. Each is shown
+//! with its line.
 
-ghost use Rattle.std.specs.Prelude.{◌≡◌, ℕ, List};
-ghost use Rattle.sak_exchange.specs.declared.change.Why.{Why};
-ghost use Rattle.mka_station.specs.declared.verdict.DropReason.{DropReason};
-ghost use Rattle.mka_station.specs.declared.verdict.Verdict.{Verdict};
+ghost use Rattle.std.specs.Prelude.{ℕ, List, ◌∷◌, option_map};
 ghost use Rattle.mka_station.specs.declared.verdict.Verdict.TheVariants as verdicts;
 ghost use Rattle.rx_slots.specs.declared.arrival.Arrival.{Arrival};
 ghost use Rattle.lan_core.specs.declared.fact.Fact.{Fact};
-ghost use Rattle.lan_core.specs.declared.fact.Lack.{Lack};
-ghost use Rattle.transcript.specs.inside.Reading.{along, life_tree, tick_tree, server_tree, drop_key_tree, retire_tree, begin_tree, install_tree, untaken_tree, frame_tree, heard_tree, claim_tree, noclaim_tree, data_tree, why_tree, seen_tree, verdict_tree, drop_tree, shape_tree, repeated_tree, old_number_tree, lack_tree, arrival_tree, accepted_tree, refused_tree, malformed_tree, missed_tree, late_tree, said_by, whys, vouches, reasons};
+ghost use Rattle.transcript.specs.inside.Reading.{along, life_tree, tick_tree, server_tree, drop_key_tree, retire_tree, begin_tree, install_tree, untaken_tree, frame_tree, heard_tree, claim_tree, noclaim_tree, data_tree, plain_tree, told_in, verdict_of, arrival_tree, accepted_tree, refused_tree, malformed_tree, missed_tree, late_tree};
+ghost use Rattle.transcript.specs.Words.{reason_words, reasons};
 ghost use Rattle.transcript.specs.inside.Taking.{words_behind, Takes, Answers};
 
 use crate::fault::FactError;
+use crate::tables::{accepted_of, lack_of, reason_of, why_of};
 use crate::words;
 use crate::words::{
-    key, label, member, next_word, no_word, number_8, number_32, number_64, station,
+    key, label, member, next_word, no_word, number_32, number_64, station, told, told_by,
 };
 use lan_base::Name;
-use lan_core::{Fact, Lack};
-use mka_station::{DropReason, Verdict};
-use mkpdu_codec::Refusal;
-use peer_lists::PeerRefusal;
+use lan_core::Fact;
+use mka_station::Verdict;
 use rx_slots::Arrival;
-use sak_exchange::Why;
 use std::alloc::Global;
 
+/// The fact that a first word and the words behind it say, if it holds no list of octets. Claims,
+/// of which a transcript may have the most, come first.
+pub fn plain_fact(first: &[u8], rest: &[u8], names: &[Name]) -> Option<Fact>
+    ensures { Takes (λ x. x) result
+        (along names.now plain_tree (first.now ∷ words_behind rest.now)) }
+{
+    if first == b"claim".as_slice() {
+        return claimed(rest, names);
+    }
+    if first == b"life".as_slice() {
+        return life(rest, names);
+    }
+    if first == b"tick".as_slice() {
+        return ticked(rest, names);
+    }
+    if first == b"server".as_slice() {
+        return server(rest, names);
+    }
+    if first == b"drop".as_slice() {
+        return dropped(rest, names);
+    }
+    if first == b"retire".as_slice() {
+        return retired(rest, names);
+    }
+    if first == b"begin".as_slice() {
+        return began(rest, names);
+    }
+    if first == b"install".as_slice() {
+        return installed(rest, names);
+    }
+    if first == b"untaken".as_slice() {
+        return untaken(rest, names);
+    }
+    if first == b"heard".as_slice() {
+        return heard(rest, names);
+    }
+    if first == b"noclaim".as_slice() {
+        return unclaimed(rest, names);
+    }
+    None
+}
+
 /// `life NAME MI`.
-pub fn life(rest: &[u8], names: &[Name]) -> Option<Fact>
+fn life(rest: &[u8], names: &[Name]) -> Option<Fact>
     ensures { Takes (λ x. x) result (along names.now life_tree (words_behind rest.now)) }
 {
     let (station, rest) = station(rest, names)?;
@@ -36,7 +74,7 @@ pub fn life(rest: &[u8], names: &[Name]) -> Option<Fact>
 }
 
 /// `tick NAME AT next N`.
-pub fn ticked(rest: &[u8], names: &[Name]) -> Option<Fact>
+fn ticked(rest: &[u8], names: &[Name]) -> Option<Fact>
     ensures { Takes (λ x. x) result (along names.now tick_tree (words_behind rest.now)) }
 {
     let (station, rest) = station(rest, names)?;
@@ -48,7 +86,7 @@ pub fn ticked(rest: &[u8], names: &[Name]) -> Option<Fact>
 }
 
 /// `server NAME MI`, or `none` in place of the MI.
-pub fn server(rest: &[u8], names: &[Name]) -> Option<Fact>
+fn server(rest: &[u8], names: &[Name]) -> Option<Fact>
     ensures { Takes (λ x. x) result (along names.now server_tree (words_behind rest.now)) }
 {
     let (station, rest) = station(rest, names)?;
@@ -58,7 +96,7 @@ pub fn server(rest: &[u8], names: &[Name]) -> Option<Fact>
 }
 
 /// `drop NAME MI NUMBER an A`.
-pub fn dropped(rest: &[u8], names: &[Name]) -> Option<Fact>
+fn dropped(rest: &[u8], names: &[Name]) -> Option<Fact>
     ensures { Takes (λ x. x) result (along names.now drop_key_tree (words_behind rest.now)) }
 {
     let (station, rest) = station(rest, names)?;
@@ -70,7 +108,7 @@ pub fn dropped(rest: &[u8], names: &[Name]) -> Option<Fact>
 }
 
 /// `retire NAME MI NUMBER an A`.
-pub fn retired(rest: &[u8], names: &[Name]) -> Option<Fact>
+fn retired(rest: &[u8], names: &[Name]) -> Option<Fact>
     ensures { Takes (λ x. x) result (along names.now retire_tree (words_behind rest.now)) }
 {
     let (station, rest) = station(rest, names)?;
@@ -82,7 +120,7 @@ pub fn retired(rest: &[u8], names: &[Name]) -> Option<Fact>
 }
 
 /// `begin NAME MI NUMBER an A epoch E CAUSE`.
-pub fn began(rest: &[u8], names: &[Name]) -> Option<Fact>
+fn began(rest: &[u8], names: &[Name]) -> Option<Fact>
     ensures { Takes (λ x. x) result (along names.now begin_tree (words_behind rest.now)) }
 {
     let (station, rest) = station(rest, names)?;
@@ -103,7 +141,7 @@ pub fn began(rest: &[u8], names: &[Name]) -> Option<Fact>
 }
 
 /// `install NAME MI NUMBER an A epoch E sak HEX`.
-pub fn installed(rest: &[u8], names: &[Name]) -> Option<Fact>
+fn installed(rest: &[u8], names: &[Name]) -> Option<Fact>
     ensures { Takes (λ x. x) result (along names.now install_tree (words_behind rest.now)) }
 {
     let (station, rest) = station(rest, names)?;
@@ -125,12 +163,12 @@ pub fn installed(rest: &[u8], names: &[Name]) -> Option<Fact>
 }
 
 /// `untaken NAME MI NUMBER WHY`.
-pub fn untaken(rest: &[u8], names: &[Name]) -> Option<Fact>
+fn untaken(rest: &[u8], names: &[Name]) -> Option<Fact>
     ensures { Takes (λ x. x) result (along names.now untaken_tree (words_behind rest.now)) }
 {
     let (station, rest) = station(rest, names)?;
     let (id, rest) = key(rest)?;
-    let why = why(rest)?;
+    let why = why_of(told(rest)?)?;
     Some(Fact::Untaken { station, id, why })
 }
 
@@ -151,7 +189,7 @@ pub fn framed(alloc: Global, rest: &[u8], names: &[Name]) -> Result<Fact, FactEr
 }
 
 /// `heard K NAME VERDICT`.
-pub fn heard(rest: &[u8], names: &[Name]) -> Option<Fact>
+fn heard(rest: &[u8], names: &[Name]) -> Option<Fact>
     ensures { Takes (λ x. x) result (along names.now heard_tree (words_behind rest.now)) }
 {
     let (frame, rest) = number_32(rest)?;
@@ -165,7 +203,7 @@ pub fn heard(rest: &[u8], names: &[Name]) -> Option<Fact>
 }
 
 /// `claim NAME an A epoch E pn PN`.
-pub fn claimed(rest: &[u8], names: &[Name]) -> Option<Fact>
+fn claimed(rest: &[u8], names: &[Name]) -> Option<Fact>
     ensures { Takes (λ x. x) result (along names.now claim_tree (words_behind rest.now)) }
 {
     let (station, rest) = station(rest, names)?;
@@ -185,11 +223,11 @@ pub fn claimed(rest: &[u8], names: &[Name]) -> Option<Fact>
 }
 
 /// `noclaim NAME LACK`.
-pub fn unclaimed(rest: &[u8], names: &[Name]) -> Option<Fact>
+fn unclaimed(rest: &[u8], names: &[Name]) -> Option<Fact>
     ensures { Takes (λ x. x) result (along names.now noclaim_tree (words_behind rest.now)) }
 {
     let (station, rest) = station(rest, names)?;
-    let why = lack(rest)?;
+    let why = lack_of(told(rest)?)?;
     Some(Fact::Unclaimed { station, why })
 }
 
@@ -207,187 +245,24 @@ pub fn arrived(alloc: Global, rest: &[u8], names: &[Name]) -> Result<Fact, FactE
     })
 }
 
-/// Why a key is not taken.
-fn why(rest: &[u8]) -> Option<Why>
-    ensures { (names : List (List ℕ)) (f : Why → Fact)
-        → Takes f result (along names (why_tree f) (words_behind rest.now)) }
-{
-    let (word, rest) = next_word(rest)?;
-    if word == b"seen".as_slice() {
-        return seen(rest);
-    }
-    let why = why_of(word)?;
-    no_word(rest)?;
-    Some(why)
-}
-
-/// A key number that is not greater than one that was kept.
-fn seen(rest: &[u8]) -> Option<Why>
-    ensures { (names : List (List ℕ)) (f : Why → Fact)
-        → Takes f result (along names (seen_tree f) (words_behind rest.now)) }
-{
-    let (kept, rest) = number_32(rest)?;
-    no_word(rest)?;
-    Some(Why::Seen { kept })
-}
-
-/// Why a key is not taken, where no number tells more.
-fn why_of(word: &[u8]) -> Option<Why>
-    ensures { result ≡ said_by whys word.now }
-{
-    if word == b"notlisted".as_slice() {
-        return Some(Why::NotListed);
-    }
-    if word == b"notserver".as_slice() {
-        return Some(Why::NotServer);
-    }
-    if word == b"retiring".as_slice() {
-        return Some(Why::Retiring);
-    }
-    if word == b"suite".as_slice() {
-        return Some(Why::Suite);
-    }
-    if word == b"offset".as_slice() {
-        return Some(Why::Offset);
-    }
-    if word == b"wrap".as_slice() {
-        return Some(Why::Wrap);
-    }
-    None
-}
-
 /// What hearing a frame comes to.
 fn verdict(rest: &[u8]) -> Option<Verdict>
-    ensures { (names : List (List ℕ)) (f : Verdict → Fact)
-        → Takes f result (along names (verdict_tree f) (words_behind rest.now)) }
+    ensures { Takes (λ x. x) result (verdict_of (words_behind rest.now)) }
 {
     let (word, rest) = next_word(rest)?;
     if word == b"drop".as_slice() {
         return dropped_frame(rest);
     }
-    let accepted = accepted_of(word)?;
-    no_word(rest)?;
-    Some(accepted)
+    accepted_of(told_by(word, rest)?)
 }
 
 /// A frame that is dropped.
 fn dropped_frame(rest: &[u8]) -> Option<Verdict>
-    ensures { (names : List (List ℕ)) (f : Verdict → Fact) → Takes f result
-        (along names (drop_tree (λ reason. f (verdicts.Dropped reason))) (words_behind rest.now)) }
+    ensures { Takes (λ reason. reason) result (option_map (λ reason. verdicts.Dropped reason)
+        (told_in reason_words reasons (words_behind rest.now))) }
 {
-    match drop_reason(rest) {
-        Some(reason) => Some(Verdict::Dropped(reason)),
-        None => None,
-    }
-}
-
-/// Why a frame is dropped.
-fn drop_reason(rest: &[u8]) -> Option<DropReason>
-    ensures { (names : List (List ℕ)) (f : DropReason → Fact)
-        → Takes f result (along names (drop_tree f) (words_behind rest.now)) }
-{
-    let (word, rest) = next_word(rest)?;
-    if word == b"shape".as_slice() {
-        return shape(rest);
-    }
-    if word == b"repeated".as_slice() {
-        return repeated(rest);
-    }
-    if word == b"oldnumber".as_slice() {
-        return old_number(rest);
-    }
-    let reason = reason_of(word)?;
-    no_word(rest)?;
-    Some(reason)
-}
-
-/// The octet at which a malformed parameter set starts.
-fn shape(rest: &[u8]) -> Option<DropReason>
-    ensures { (names : List (List ℕ)) (f : DropReason → Fact)
-        → Takes f result (along names (shape_tree f) (words_behind rest.now)) }
-{
-    let (at, rest) = number_64(rest)?;
-    no_word(rest)?;
-    Some(DropReason::Unspelled(Refusal::Shape { at: at as usize }))
-}
-
-/// The type of a second parameter set.
-fn repeated(rest: &[u8]) -> Option<DropReason>
-    ensures { (names : List (List ℕ)) (f : DropReason → Fact)
-        → Takes f result (along names (repeated_tree f) (words_behind rest.now)) }
-{
-    let (kind, rest) = number_8(rest)?;
-    no_word(rest)?;
-    Some(DropReason::Unspelled(Refusal::Repeated { kind }))
-}
-
-/// A message number that is not greater than the one that was kept.
-fn old_number(rest: &[u8]) -> Option<DropReason>
-    ensures { (names : List (List ℕ)) (f : DropReason → Fact)
-        → Takes f result (along names (old_number_tree f) (words_behind rest.now)) }
-{
-    let (kept, rest) = number_32(rest)?;
-    no_word(rest)?;
-    Some(DropReason::Refused(PeerRefusal::OldNumber { kept }))
-}
-
-/// Whether an accepted frame vouches for the station.
-fn accepted_of(word: &[u8]) -> Option<Verdict>
-    ensures { result ≡ said_by vouches word.now }
-{
-    if word == b"vouched".as_slice() {
-        return Some(Verdict::Vouched);
-    }
-    if word == b"unvouched".as_slice() {
-        return Some(Verdict::Unvouched);
-    }
-    None
-}
-
-/// Why a frame is dropped, where no number tells more.
-fn reason_of(word: &[u8]) -> Option<DropReason>
-    ensures { result ≡ said_by reasons word.now }
-{
-    if word == b"notmka".as_slice() {
-        return Some(DropReason::Unspelled(Refusal::NotMka));
-    }
-    if word == b"short".as_slice() {
-        return Some(DropReason::Unspelled(Refusal::Short));
-    }
-    if word == b"agility".as_slice() {
-        return Some(DropReason::Unspelled(Refusal::Agility));
-    }
-    if word == b"ckname".as_slice() {
-        return Some(DropReason::CkName);
-    }
-    if word == b"check".as_slice() {
-        return Some(DropReason::Check);
-    }
-    if word == b"echo".as_slice() {
-        return Some(DropReason::Refused(PeerRefusal::Echo));
-    }
-    if word == b"peersfull".as_slice() {
-        return Some(DropReason::Refused(PeerRefusal::PeersFull));
-    }
-    None
-}
-
-/// Why a station got no packet number.
-fn lack(rest: &[u8]) -> Option<Lack>
-    ensures { (names : List (List ℕ)) (f : Lack → Fact)
-        → Takes f result (along names (lack_tree f) (words_behind rest.now)) }
-{
-    let (word, rest) = next_word(rest)?;
-    if word == b"nokey".as_slice() {
-        no_word(rest)?;
-        return Some(Lack::NoKey);
-    }
-    if word == b"exhausted".as_slice() {
-        let (epoch, rest) = number_32(rest)?;
-        no_word(rest)?;
-        return Some(Lack::Exhausted { epoch });
-    }
-    None
+    let reason = reason_of(told(rest)?)?;
+    Some(Verdict::Dropped(reason))
 }
 
 /// The answer to a protected frame.

@@ -11,6 +11,7 @@ mod reading;
 mod rendering;
 mod run_laws;
 mod spelling;
+mod tables;
 mod words;
 
 pub use fault::FactError;

@@ -4,29 +4,21 @@ ghost use Rattle.std.specs.Prelude.{◌≡◌, ℕ, List, [], ◌∷◌, ◌++�
 ghost use Rattle.hex.specs.Hex.{encode_lower};
 ghost use Rattle.aes_block.specs.Secrets.{secret_octets};
 ghost use Rattle.lan_base.specs.AssociationNumbers.{number_of};
-ghost use Rattle.transcript.specs.Words.{spelled, server_word, why_words, reason_words, verdict_words, arrival_words, lack_words, cause_text, frame_text};
+ghost use Rattle.transcript.specs.Words.{spelled, server_word, why_words, verdict_words, arrival_words, lack_words, cause_text, frame_text};
 ghost use Rattle.transcript.specs.Rendering.{rendered};
 ghost use Rattle.trace_text.specs.Appending.{Grew, word_text};
 ghost use Rattle.transcript.specs.inside.Appending.{line_of, told};
 
 use crate::laying::{ROOM, lay_ticked};
+use crate::tables::{Told, cause_text, frame_text, lack_told, reason_told, verdict_word, why_told};
 use aes_block::Secret;
 use lan_base::{AssociationNumber, KeyId, Mi, Name, Octets};
 use lan_core::{Fact, Lack};
-use mka_station::{DropReason, Verdict};
-use mkpdu_codec::Refusal;
-use peer_lists::PeerRefusal;
+use mka_station::Verdict;
 use rx_slots::Arrival;
 use sak_exchange::{Cause, Why};
 use std::alloc::AllocError;
 use trace_text::{Word, put_words};
-
-/// What a line's last words tell: a word, or a word and a number.
-#[derive(Clone, Copy)]
-pub enum Told {
-    Word(&'static [u8]),
-    WordAndNumber(&'static [u8], u64),
-}
 
 /// Appends a fact's line with its line feed, under the names of the stations by place; a station that
 /// has none is named by an empty word. An `Err` leaves what was there.
@@ -254,21 +246,6 @@ fn put_untaken<'a>(
     put_told(into, b"untaken", &head, told)
 }
 
-/// What tells why a key is not taken.
-fn why_told(why: Why) -> Told
-    ensures { (names : List (List ℕ)) → map (spelled names) (why_words why) ≡ told result }
-{
-    match why {
-        Why::NotListed => Told::Word(b"notlisted"),
-        Why::NotServer => Told::Word(b"notserver"),
-        Why::Seen { kept } => Told::WordAndNumber(b"seen", u64::from(kept)),
-        Why::Retiring => Told::Word(b"retiring"),
-        Why::Suite => Told::Word(b"suite"),
-        Why::Offset => Told::Word(b"offset"),
-        Why::Wrap => Told::Word(b"wrap"),
-    }
-}
-
 /// Appends the line of a frame that was heard.
 fn put_heard(
     into: &mut Vec<u8>,
@@ -281,54 +258,11 @@ fn put_heard(
         ∷ map (spelled names) (verdict_words verdict))) }
     ensures err { OnErr result (Grew into.old.items into.new.items) }
 {
-    let first = b"heard";
-    let head = &[Word::Number(u64::from(frame)), Word::Text(name)];
-    match verdict {
-        Verdict::Vouched => put(into, first, head, &[Word::Text(b"vouched")]),
-        Verdict::Unvouched => put(into, first, head, &[Word::Text(b"unvouched")]),
-        Verdict::Dropped(reason) => put_drop(into, frame, name, reason),
-    }
-}
-
-/// Appends the line of a frame that was heard and dropped.
-fn put_drop(
-    into: &mut Vec<u8>,
-    frame: u32,
-    name: &[u8],
-    reason: DropReason,
-) -> Result<(), AllocError>
-    ensures ok { OnOk result ((names : List (List ℕ)) → into.new.items ≡ into.old.items
-        ++ line_of (codes "heard") (decimal frame ∷ name.now ∷ codes "drop"
-        ∷ map (spelled names) (reason_words reason))) }
-    ensures err { OnErr result (Grew into.old.items into.new.items) }
-{
-    let told = reason_told(reason);
     let number = Word::Number(u64::from(frame));
-    let head = [number, Word::Text(name), Word::Text(b"drop")];
-    put_told(into, b"heard", &head, told)
-}
-
-/// What tells why a frame is dropped.
-fn reason_told(reason: DropReason) -> Told
-    ensures { (names : List (List ℕ)) → map (spelled names) (reason_words reason) ≡ told result }
-{
-    match reason {
-        DropReason::Unspelled(Refusal::NotMka) => Told::Word(b"notmka"),
-        DropReason::Unspelled(Refusal::Short) => Told::Word(b"short"),
-        DropReason::Unspelled(Refusal::Shape { at }) => Told::WordAndNumber(b"shape", at as u64),
-        DropReason::Unspelled(Refusal::Repeated { kind }) => Told::WordAndNumber(
-            b"repeated",
-            u64::from(kind),
-        ),
-        DropReason::Unspelled(Refusal::Agility) => Told::Word(b"agility"),
-        DropReason::CkName => Told::Word(b"ckname"),
-        DropReason::Check => Told::Word(b"check"),
-        DropReason::Refused(PeerRefusal::Echo) => Told::Word(b"echo"),
-        DropReason::Refused(PeerRefusal::OldNumber { kept }) => Told::WordAndNumber(
-            b"oldnumber",
-            u64::from(kept),
-        ),
-        DropReason::Refused(PeerRefusal::PeersFull) => Told::Word(b"peersfull"),
+    let head = [number, Word::Text(name), Word::Text(verdict_word(verdict))];
+    match verdict {
+        Verdict::Vouched | Verdict::Unvouched => put(into, b"heard", &head, &[]),
+        Verdict::Dropped(reason) => put_told(into, b"heard", &head, reason_told(reason)),
     }
 }
 
@@ -338,15 +272,7 @@ fn put_unclaimed(into: &mut Vec<u8>, name: &[u8], why: Lack) -> Result<(), Alloc
         ++ line_of (codes "noclaim") (name.now ∷ map (spelled names) (lack_words why))) }
     ensures err { OnErr result (Grew into.old.items into.new.items) }
 {
-    let first = b"noclaim";
-    let head = &[Word::Text(name)];
-    match why {
-        Lack::NoKey => put(into, first, head, &[Word::Text(b"nokey")]),
-        Lack::Exhausted { epoch } => {
-            let tail = [Word::Text(b"exhausted"), Word::Number(u64::from(epoch))];
-            put(into, first, head, &tail)
-        }
-    }
+    put_told(into, b"noclaim", &[Word::Text(name)], lack_told(why))
 }
 
 /// Appends the line of a protected frame that arrived.
@@ -364,15 +290,10 @@ fn put_arrived<'a>(
     match arrival {
         Arrival::Accepted { pn, body } => put_accepted(into, frame, name, *pn, body),
         Arrival::Malformed(refusal) => put_malformed(into, frame, name, refusal.text()),
-        Arrival::Own => put_refused(into, frame, name, Told::Word(b"own")),
+        Arrival::Own => put_refused(into, frame, name, Told::alone(b"own")),
         Arrival::Missed { an } => put_missed(into, frame, name, *an),
-        Arrival::BadCheck => put_refused(into, frame, name, Told::Word(b"badcheck")),
-        Arrival::Late { next } => put_refused(
-            into,
-            frame,
-            name,
-            Told::WordAndNumber(b"late", *next),
-        ),
+        Arrival::BadCheck => put_refused(into, frame, name, Told::alone(b"badcheck")),
+        Arrival::Late { next } => put_refused(into, frame, name, Told::counted(b"late", *next)),
     }
 }
 
@@ -425,14 +346,14 @@ fn put_missed(
         (decimal frame ∷ name.now ∷ codes "missed" ∷ decimal (number_of an) ∷ [])) }
     ensures err { OnErr result (Grew into.old.items into.new.items) }
 {
-    let told = Told::WordAndNumber(b"missed", u64::from(an.number()));
+    let told = Told::counted(b"missed", u64::from(an.number()));
     put_refused(into, frame, name, told)
 }
 
 /// Appends the line of a protected frame that arrived, and what tells why it is not accepted.
 fn put_refused(into: &mut Vec<u8>, frame: u32, name: &[u8], why: Told) -> Result<(), AllocError>
     ensures ok { OnOk result (into.new.items ≡ into.old.items ++ line_of (codes "data")
-        (decimal frame ∷ name.now ∷ told why)) }
+        (decimal frame ∷ name.now ∷ told why.entry)) }
     ensures err { OnErr result (Grew into.old.items into.new.items) }
 {
     let head = [Word::Number(u64::from(frame)), Word::Text(name)];
@@ -442,14 +363,13 @@ fn put_refused(into: &mut Vec<u8>, frame: u32, name: &[u8], why: Told) -> Result
 /// Appends a line whose last words are those that tell something.
 fn put_told(into: &mut Vec<u8>, first: &[u8], head: &[Word], last: Told) -> Result<(), AllocError>
     ensures ok { OnOk result (into.new.items ≡ into.old.items
-        ++ line_of first.now (map word_text head.now ++ told last)) }
+        ++ line_of first.now (map word_text head.now ++ told last.entry)) }
     ensures err { OnErr result (Grew into.old.items into.new.items) }
 {
-    match last {
-        Told::Word(word) => put(into, first, head, &[Word::Text(word)]),
-        Told::WordAndNumber(word, number) => {
-            put(into, first, head, &[Word::Text(word), Word::Number(number)])
-        }
+    let word = Word::Text(last.word);
+    match last.number {
+        None => put(into, first, head, &[word]),
+        Some(number) => put(into, first, head, &[word, Word::Number(number)]),
     }
 }
 
@@ -461,24 +381,6 @@ fn server_word(mi: &Option<Mi>) -> Word<'_>
         Some(mi) => Word::Octets(&mi.0),
         None => Word::Text(b"none"),
     }
-}
-
-/// The word that says why a key begins.
-fn cause_text(cause: Cause) -> &'static [u8]
-    ensures { result.now ≡ cause_text cause }
-{
-    match cause {
-        Cause::All => b"all",
-        Cause::Timeout => b"timeout",
-        Cause::Flag => b"flag",
-    }
-}
-
-/// The word that says whether a frame is a protected one.
-fn frame_text(sec: bool) -> &'static [u8]
-    ensures { result.now ≡ frame_text sec }
-{
-    if sec { b"sec" } else { b"mka" }
 }
 
 /// The name of the station at a place, and no octet where it has none.

@@ -2,7 +2,7 @@
 
 ghost use Rattle.std.specs.Prelude.{◌≡◌, ◌≤◌, Ok, true, nat_le, length};
 ghost use Rattle.std.specs.List.{list_all};
-ghost use Rattle.transcript.specs.inside.Reading.{and_then, kept_if, position_of, station_of, whole_of, is_small_digit, is_pairs, octets_of, array_of, an_of, member_of, server_of, secret_of, said_by, causes, secs, tags};
+ghost use Rattle.transcript.specs.inside.Reading.{and_then, kept_if, position_of, station_of, whole_of, is_small_digit, is_pairs, octets_of, array_of, an_of, member_of, server_of, secret_of, said_by, tags};
 ghost use Rattle.transcript.specs.inside.Numerals.{is_led};
 ghost use Rattle.transcript.specs.inside.Taking.{Answers};
 
@@ -11,7 +11,6 @@ use aes_block::Secret;
 use gcm_frames::TagRefusal;
 use hex::FromHex;
 use lan_base::{AssociationNumber, Mi, Name, Octets};
-use sak_exchange::Cause;
 use std::alloc::Global;
 use std::str;
 use trace_text::decoded;
@@ -130,35 +129,6 @@ pub fn secret_of(word: &[u8]) -> Option<Secret>
         return Some(Secret::S128(octets));
     }
     Some(Secret::S256(array_of(word)?))
-}
-
-/// Why a key begins.
-pub fn cause_of(word: &[u8]) -> Option<Cause>
-    ensures { result ≡ said_by causes word.now }
-{
-    if word == b"all".as_slice() {
-        return Some(Cause::All);
-    }
-    if word == b"timeout".as_slice() {
-        return Some(Cause::Timeout);
-    }
-    if word == b"flag".as_slice() {
-        return Some(Cause::Flag);
-    }
-    None
-}
-
-/// Whether a frame is a protected one.
-pub fn sec_of(word: &[u8]) -> Option<bool>
-    ensures { result ≡ said_by secs word.now }
-{
-    if word == b"sec".as_slice() {
-        return Some(true);
-    }
-    if word == b"mka".as_slice() {
-        return Some(false);
-    }
-    None
 }
 
 /// Why a frame is no protected frame.

@@ -2,14 +2,16 @@
 
 ghost use Rattle.std.specs.Prelude.{◌≡◌, ◌≤◌, ◌∷◌, length, true};
 ghost use Rattle.std.specs.List.{slice_split, position_or_len, list_all};
-ghost use Rattle.transcript.specs.inside.Reading.{is_space, is_letter, ends_word, parted, after, taken, ended, key_of, station_of, number_of, an_of, member_of, server_of, secret_of, said_by, causes, secs, tags, last_of, last_octets};
+ghost use Rattle.transcript.specs.inside.Reading.{is_space, is_letter, ends_word, parted, after, taken, ended, key_of, station_of, number_of, an_of, member_of, server_of, secret_of, said_by, tags, last_number, last_told, told_by, last_of, last_octets};
+ghost use Rattle.transcript.specs.Words.{cause_text, causes, frame_text, secs};
+ghost use Rattle.transcript.specs.inside.Tables.{named};
 ghost use Rattle.transcript.specs.inside.Taking.{words_behind, Takes, Answers};
 
 use crate::fault::FactError;
 use crate::spelling::{
-    an_of, cause_of, member_of, number_of, octets_of, place_of, sec_of, secret_of, server_of,
-    tag_of,
+    an_of, member_of, number_of, octets_of, place_of, secret_of, server_of, tag_of,
 };
+use crate::tables::{Told, cause_of, sec_of};
 use aes_block::Secret;
 use gcm_frames::TagRefusal;
 use lan_base::{AssociationNumber, KeyId, Mi, Name, Octets};
@@ -135,16 +137,6 @@ pub fn station<'a>(rest: &'a [u8], names: &[Name]) -> Option<(u8, &'a [u8])>
     Some((place, rest))
 }
 
-/// A number of 8 bits.
-pub fn number_8(rest: &[u8]) -> Option<(u8, &[u8])>
-    ensures { Takes (λ x. (x.0, words_behind x.1.now)) result
-        (taken (number_of 8) (words_behind rest.now)) }
-{
-    let (word, rest) = next_word(rest)?;
-    let number = number_of(word, u64::from(u8::MAX))?;
-    Some((number as u8, rest))
-}
-
 /// An association number.
 #[inline(always)]
 pub fn an(rest: &[u8]) -> Option<(AssociationNumber, &[u8])>
@@ -218,7 +210,7 @@ pub fn secret(rest: &[u8]) -> Option<(Secret, &[u8])>
 /// Why a key begins.
 pub fn cause(rest: &[u8]) -> Option<(Cause, &[u8])>
     ensures { Takes (λ x. (x.0, words_behind x.1.now)) result
-        (taken (said_by causes) (words_behind rest.now)) }
+        (taken (named cause_text causes) (words_behind rest.now)) }
 {
     let (word, rest) = next_word(rest)?;
     let cause = cause_of(word)?;
@@ -228,7 +220,7 @@ pub fn cause(rest: &[u8]) -> Option<(Cause, &[u8])>
 /// Whether a frame is a protected one.
 pub fn sec(rest: &[u8]) -> Option<(bool, &[u8])>
     ensures { Takes (λ x. (x.0, words_behind x.1.now)) result
-        (taken (said_by secs) (words_behind rest.now)) }
+        (taken (named frame_text secs) (words_behind rest.now)) }
 {
     let (word, rest) = next_word(rest)?;
     let sec = sec_of(word)?;
@@ -243,6 +235,34 @@ pub fn tag(rest: &[u8]) -> Option<(TagRefusal, &[u8])>
     let (word, rest) = next_word(rest)?;
     let refusal = tag_of(word)?;
     Some((refusal, rest))
+}
+
+/// What the words left tell: one word, or one and a number.
+pub fn told(rest: &[u8]) -> Option<Told<'_>>
+    ensures { Takes (λ x. (x.word.now, x.number)) result (last_told (words_behind rest.now)) }
+{
+    let (word, rest) = next_word(rest)?;
+    told_by(word, rest)
+}
+
+/// What a word tells with the number behind it, if a word stands there.
+pub fn told_by<'a>(word: &'a [u8], rest: &'a [u8]) -> Option<Told<'a>>
+    ensures { Takes (λ x. (x.word.now, x.number)) result (told_by word.now (words_behind rest.now)) }
+{
+    let number = last_number(rest)?;
+    Some(Told { word, number })
+}
+
+/// The number that the words left are, if there are any.
+fn last_number(rest: &[u8]) -> Option<Option<u64>>
+    ensures { Takes (λ x. x) result (last_number (words_behind rest.now)) }
+{
+    let Some((word, rest)) = next_word(rest) else {
+        return Some(None);
+    };
+    let number = number_of(word, u64::MAX)?;
+    no_word(rest)?;
+    Some(Some(number))
 }
 
 /// The octets that the last word spells. Memory is taken for such a word alone.

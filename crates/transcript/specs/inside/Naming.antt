@@ -1,12 +1,11 @@
 -- The names after a line, by what its words are.
-use Rattle.std.specs.Prelude.{ℕ, ◌≡◌, ◌≤◌, ◌==◌, Bool, false, if◌then◌else◌, nat_lt, List, [], ◌∷◌, ◌++◌, length, codes, Option, Some, None, is_some, Result, Ok, Err, vec_capacity}
+use Rattle.std.specs.Prelude.{ℕ, ◌≡◌, ◌==◌, Bool, false, if◌then◌else◌, nat_lt, List, [], ◌∷◌, ◌++◌, length, codes, Option, Some, None, is_some, Result, Ok, Err}
 use Rattle.std.specs.List.{slice_split}
 use Rattle.lan_base.specs.Name.{is_name}
 use Rattle.lan_core.specs.declared.fact.Fact.{Fact}
 use Rattle.transcript.specs.declared.fault.FactError.{FactError}
 use Rattle.transcript.specs.declared.fault.FactError.TheVariants.{Unread}
 use Rattle.transcript.specs.Naming.{most_named}
-use Rattle.transcript.specs.Rendering.{AreNames}
 use Rattle.transcript.specs.inside.Reading.{and_then, kept_if, after, parted, is_space, station_of, fact_in}
 use Rattle.transcript.specs.inside.Taking.{Answers, IsForFrame}
 

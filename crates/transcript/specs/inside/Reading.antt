@@ -11,30 +11,25 @@ use Rattle.lan_base.specs.declared.address.Mi.{Mi}
 use Rattle.lan_base.specs.declared.association_number.AssociationNumber.{AssociationNumber}
 use Rattle.lan_base.specs.declared.key_id.KeyId.{KeyId}
 use Rattle.lan_base.specs.AssociationNumbers.{numbered}
-use Rattle.mkpdu_codec.specs.declared.refusal.Refusal.TheVariants.{NotMka, Short, Shape, Repeated, Agility}
-use Rattle.peer_lists.specs.declared.heard.PeerRefusal.TheVariants.{Echo, OldNumber, PeersFull}
 use Rattle.sak_exchange.specs.declared.change.Cause.{Cause}
-use Rattle.sak_exchange.specs.declared.change.Cause.TheVariants.{All, Timeout, Flag}
-use Rattle.sak_exchange.specs.declared.change.Why.{Why}
-use Rattle.sak_exchange.specs.declared.change.Why.TheVariants.{NotListed, NotServer, Seen, Retiring, Suite, Offset, Wrap}
 use Rattle.gcm_frames.specs.declared.tag.TagRefusal.{TagRefusal}
 use Rattle.gcm_frames.specs.declared.tag.TagRefusal.TheVariants as Tag
 use Rattle.mka_station.specs.declared.verdict.Verdict.{Verdict}
 use Rattle.mka_station.specs.declared.verdict.Verdict.TheVariants as verdicts
-use Rattle.mka_station.specs.declared.verdict.DropReason.{DropReason}
-use Rattle.mka_station.specs.declared.verdict.DropReason.TheVariants.{Unspelled, CkName, Check, Refused}
 use Rattle.rx_slots.specs.declared.arrival.Arrival.{Arrival}
 use Rattle.rx_slots.specs.declared.arrival.Arrival.TheVariants.{Accepted, Malformed, Own, Missed, BadCheck, Late}
 use Rattle.lan_core.specs.declared.fact.Fact.{Fact}
 use Rattle.lan_core.specs.declared.fact.Fact.TheVariants.{Life, Ticked, Server, Dropped, Retired, Began, Installed, Untaken, Framed, HeardMka, Claimed, Unclaimed, Arrived}
-use Rattle.lan_core.specs.declared.fact.Lack.{Lack}
-use Rattle.lan_core.specs.declared.fact.Lack.TheVariants.{NoKey, Exhausted}
 use Rattle.trace_text.specs.Words.{is_word}
+use Rattle.transcript.specs.Words.{Row, cause_text, causes, why_words, whys, frame_text, secs, reason_words, reasons, verdict_words, vouches, lack_words, lacks}
+use Rattle.transcript.specs.Words as Words
+use Rattle.transcript.specs.inside.Tables.{value_of, named}
 
 -- what the words left may be: none, and the fact that was said; a word that is these letters, or
 -- else something; a word that is these letters; the name of a station, a number of so many bits, an
 -- association number, a member identifier, a key's identifier, an elected server, a key, a word of a table, and what is
--- left behind each; a last word of any count of octets; or nothing
+-- left behind each; words that say something by themselves; a last word of any count of octets; or
+-- nothing
 pub data Tree : Type 0 where
   says : Fact → Tree
   text : List ℕ → Tree → Tree → Tree
@@ -49,9 +44,7 @@ pub data Tree : Type 0 where
   cause : (Cause → Tree) → Tree
   sec : (Bool → Tree) → Tree
   tag : (TagRefusal → Tree) → Tree
-  why : (Why → Tree) → Tree
-  vouch : (Verdict → Tree) → Tree
-  reason : (DropReason → Tree) → Tree
+  spoken : (List (List ℕ) → Option Fact) → Tree
   octets : (List ℕ → Fact) → Tree
   nothing : Tree
 
@@ -131,37 +124,11 @@ abbrev pub said_by : {A : Type 0} → List (List ℕ × A) → List ℕ → Opti
 said_by [] word = None
 said_by (row ∷ rows) word = if is_word word row.0 then Some row.1 else said_by rows word
 
--- why a key begins
-abbrev pub causes : List (List ℕ × Cause)
-causes = (codes "all", All) ∷ (codes "timeout", Timeout) ∷ (codes "flag", Flag) ∷ []
-
--- whether a frame is a protected one
-abbrev pub secs : List (List ℕ × Bool)
-secs = (codes "sec", true) ∷ (codes "mka", false) ∷ []
-
 -- why a frame is no protected frame
 abbrev pub tags : List (List ℕ × TagRefusal)
 tags =
     (codes "notsec", Tag.NotSec) ∷ (codes "version", Tag.Version) ∷ (codes "mode", Tag.Mode)
     ∷ (codes "short", Tag.Short) ∷ (codes "slwrong", Tag.SlWrong) ∷ []
-
--- why a key is not taken, where no number tells more
-abbrev pub whys : List (List ℕ × Why)
-whys =
-    (codes "notlisted", NotListed) ∷ (codes "notserver", NotServer) ∷ (codes "retiring", Retiring)
-    ∷ (codes "suite", Suite) ∷ (codes "offset", Offset) ∷ (codes "wrap", Wrap) ∷ []
-
--- whether an accepted frame vouches for the station
-abbrev pub vouches : List (List ℕ × Verdict)
-vouches =
-    (codes "vouched", verdicts.Vouched) ∷ (codes "unvouched", verdicts.Unvouched) ∷ []
-
--- why a frame is dropped, where no number tells more
-abbrev pub reasons : List (List ℕ × DropReason)
-reasons =
-    (codes "notmka", Unspelled NotMka) ∷ (codes "short", Unspelled Short)
-    ∷ (codes "agility", Unspelled Agility) ∷ (codes "ckname", CkName) ∷ (codes "check", Check)
-    ∷ (codes "echo", Refused Echo) ∷ (codes "peersfull", Refused PeersFull) ∷ []
 
 -- the first of these words, and the others
 abbrev pub parted : List (List ℕ) → Option (List ℕ × List (List ℕ))
@@ -199,6 +166,31 @@ last_of words = and_then (parted words) (λ x. ended x.0 x.1)
 abbrev pub last_octets : List (List ℕ) → Option (List ℕ)
 last_octets words = and_then (last_of words) octets_of
 
+-- the number that words are, if there are any
+abbrev pub last_number : List (List ℕ) → Option (Option ℕ)
+last_number [] = Some None
+last_number (word ∷ words) =
+    and_then (whole_of word) (λ n. and_then (ended (tt {0}) words) (λ end. Some (Some n)))
+
+-- a word, and the number that the words behind it are, if there are any
+abbrev pub told_by : List ℕ → List (List ℕ) → Option (List ℕ × Option ℕ)
+told_by word others = and_then (last_number others) (λ n. Some (word, n))
+
+abbrev pub last_told : List (List ℕ) → Option (List ℕ × Option ℕ)
+last_told words = and_then (parted words) (λ x. told_by x.0 x.1)
+
+-- what words tell by a table
+abbrev pub told_in : {A : Type 0}
+    → (A → List Words.Word) → List (Row A) → List (List ℕ) → Option A
+told_in listed rows words = and_then (last_told words) (λ t. value_of listed rows t.0 t.1)
+
+-- what hearing a frame comes to
+abbrev pub verdict_of : List (List ℕ) → Option Verdict
+verdict_of words =
+    and_then (parted words) (λ x. if is_word x.0 (codes "drop")
+    then option_map (λ reason. verdicts.Dropped reason) (told_in reason_words reasons x.1)
+    else told_in verdict_words vouches words)
+
 -- what words say along a tree
 abbrev pub along : List (List ℕ) → Tree → List (List ℕ) → Option Fact
 along names (says fact) words = ended fact words
@@ -221,17 +213,12 @@ along names (server next) words =
 along names (secret next) words =
     and_then (taken secret_of words) (λ x. along names (next x.0) x.1)
 along names (cause next) words =
-    and_then (taken (said_by causes) words) (λ x. along names (next x.0) x.1)
+    and_then (taken (named cause_text causes) words) (λ x. along names (next x.0) x.1)
 along names (sec next) words =
-    and_then (taken (said_by secs) words) (λ x. along names (next x.0) x.1)
+    and_then (taken (named frame_text secs) words) (λ x. along names (next x.0) x.1)
 along names (tag next) words =
     and_then (taken (said_by tags) words) (λ x. along names (next x.0) x.1)
-along names (why next) words =
-    and_then (taken (said_by whys) words) (λ x. along names (next x.0) x.1)
-along names (vouch next) words =
-    and_then (taken (said_by vouches) words) (λ x. along names (next x.0) x.1)
-along names (reason next) words =
-    and_then (taken (said_by reasons) words) (λ x. along names (next x.0) x.1)
+along names (spoken f) words = f words
 along names (octets f) words = option_map f (last_octets words)
 along names nothing words = None
 
@@ -240,36 +227,6 @@ an_tree next = only (codes "an") (an next)
 
 abbrev pub epoch_tree : (ℕ → Tree) → Tree
 epoch_tree next = only (codes "epoch") (number 32 next)
-
-abbrev pub seen_tree : (Why → Fact) → Tree
-seen_tree f = number 32 (λ kept. says (f (Seen kept)))
-
-abbrev pub why_tree : (Why → Fact) → Tree
-why_tree f = text (codes "seen") (seen_tree f) (why (λ w. says (f w)))
-
-abbrev pub shape_tree : (DropReason → Fact) → Tree
-shape_tree f = number 64 (λ at. says (f (Unspelled (Shape at))))
-
-abbrev pub repeated_tree : (DropReason → Fact) → Tree
-repeated_tree f = number 8 (λ kind. says (f (Unspelled (Repeated kind))))
-
-abbrev pub old_number_tree : (DropReason → Fact) → Tree
-old_number_tree f = number 32 (λ kept. says (f (Refused (OldNumber kept))))
-
-abbrev pub drop_tree : (DropReason → Fact) → Tree
-drop_tree f =
-    text (codes "shape") (shape_tree f) (text (codes "repeated") (repeated_tree f)
-    (text (codes "oldnumber") (old_number_tree f) (reason (λ why. says (f why)))))
-
-abbrev pub verdict_tree : (Verdict → Fact) → Tree
-verdict_tree f =
-    text (codes "drop") (drop_tree (λ reason. f (verdicts.Dropped reason)))
-    (vouch (λ verdict. says (f verdict)))
-
-abbrev pub lack_tree : (Lack → Fact) → Tree
-lack_tree f =
-    text (codes "nokey") (says (f NoKey))
-    (text (codes "exhausted") (number 32 (λ epoch. says (f (Exhausted epoch)))) nothing)
 
 abbrev pub accepted_tree : (Arrival → Fact) → Tree
 accepted_tree f = number 32 (λ pn. octets (λ body. f (Accepted pn body)))
@@ -324,14 +281,18 @@ install_tree =
     only (codes "sak") (secret (λ sak. says (Installed s id a epoch sak)))))))
 
 abbrev pub untaken_tree : Tree
-untaken_tree = station (λ s. key (λ id. why_tree (λ why. Untaken s id why)))
+untaken_tree =
+    station (λ s. key (λ id. spoken (λ words.
+    option_map (λ why. Untaken s id why) (told_in why_words whys words))))
 
 abbrev pub frame_tree : Tree
 frame_tree =
     number 32 (λ k. station (λ s. sec (λ protected. octets (λ xs. Framed k s protected xs))))
 
 abbrev pub heard_tree : Tree
-heard_tree = number 32 (λ k. station (λ s. verdict_tree (λ verdict. HeardMka k s verdict)))
+heard_tree =
+    number 32 (λ k. station (λ s. spoken (λ words.
+    option_map (λ verdict. HeardMka k s verdict) (verdict_of words))))
 
 abbrev pub claim_tree : Tree
 claim_tree =
@@ -339,7 +300,9 @@ claim_tree =
     only (codes "pn") (number 32 (λ pn. says (Claimed s a epoch pn))))))
 
 abbrev pub noclaim_tree : Tree
-noclaim_tree = station (λ s. lack_tree (λ why. Unclaimed s why))
+noclaim_tree =
+    station (λ s. spoken (λ words.
+    option_map (λ why. Unclaimed s why) (told_in lack_words lacks words)))
 
 abbrev pub data_tree : Tree
 data_tree = number 32 (λ k. station (λ s. arrival_tree (λ arrival. Arrived k s arrival)))

@@ -1,4 +1,4 @@
-use Rattle.transcript.proofs.RunFacts.{typed-fits}
+use Rattle.transcript.proofs.EachFact.{typed-fits}
 use Rattle.transcript.proofs.run_laws.law_typed_facts_have_lines.Goals as goal
 
 pub returns : goal.returns

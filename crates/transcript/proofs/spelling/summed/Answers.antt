@@ -1,8 +1,7 @@
-use Rattle.std.proofs.Common.{◌≡◌, ◌∙◌, ◌+◌, ◌-◌, ◌*◌, ◌<◌, Some, length, get_or, sym, ap, subst, arith, take}
+use Rattle.std.proofs.Common.{◌≡◌, ◌∙◌, ◌+◌, ◌*◌, Some, ap, subst, arith, take}
 use Rattle.std.proofs.lemmas.Bool.Decides.{nat_tests}
 use Rattle.std.proofs.lemmas.List.{take_all}
 use Rattle.std.specs.Str.Parse.{AllDigits, digits_value}
-use Rattle.transcript.specs.inside.Reading.{whole_of}
 use Rattle.transcript.proofs.Numbers.{summed_not, summed_few, summed_more, summed_so}
 use Rattle.transcript.proofs.spelling.summed.Goals as goal
 

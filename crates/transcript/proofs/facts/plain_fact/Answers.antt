@@ -2,7 +2,7 @@ use Rattle.std.proofs.Common.{true}
 use Rattle.std.specs.Prelude.{codes}
 use Rattle.transcript.specs.inside.Taking.{words_behind}
 use Rattle.transcript.proofs.Branches.{tested, claimed}
-use Rattle.transcript.proofs.reading.plain_fact.Goals as goal
+use Rattle.transcript.proofs.facts.plain_fact.Goals as goal
 
 pub returns-then-eq : goal.returns-then-eq
 returns-then-eq c =
