@@ -100,18 +100,7 @@ grown-lane at (shows.Installed s id a epoch sak) span old new is grown = record 
 
     some-same : (x y : Span) → Some x ≡ Some y → x ≡ y
     some-same x y e = cc e
-grown-lane at (shows.Life t mi) span old new is grown = absurd (cc is)
-grown-lane at (shows.Ticked t now next) span old new is grown = absurd (cc is)
-grown-lane at (shows.Server t mi) span old new is grown = absurd (cc is)
-grown-lane at (shows.Dropped t id a) span old new is grown = absurd (cc is)
-grown-lane at (shows.Retired t id a) span old new is grown = absurd (cc is)
-grown-lane at (shows.Began t id a epoch cause) span old new is grown = absurd (cc is)
-grown-lane at (shows.Untaken t id why) span old new is grown = absurd (cc is)
-grown-lane at (shows.Framed k t sec xs) span old new is grown = absurd (cc is)
-grown-lane at (shows.HeardMka k t verdict) span old new is grown = absurd (cc is)
-grown-lane at (shows.Claimed t a epoch pn) span old new is grown = absurd (cc is)
-grown-lane at (shows.Unclaimed t why) span old new is grown = absurd (cc is)
-grown-lane at (shows.Arrived k t arrival) span old new is grown = absurd (cc is)
+grown-lane at _ span old new is grown = absurd (cc is)
 
 kept-by : (at : ℕ) (b : Bool) (old new : Columns Span) → By (IsKeptRow at) b old new → IsKeptRow at old new
 kept-by at true old new is = is
@@ -132,36 +121,14 @@ kept-lane at fact span old new is kept = record {
 
     time : (at : ℕ) (fact : Fact) → installs at fact ≡ Some span → at ≡ span.installed
     time at (shows.Installed s id a epoch sak) is = ap first is
-    time at (shows.Life t mi) is = absurd (cc is)
-    time at (shows.Ticked t now next) is = absurd (cc is)
-    time at (shows.Server t mi) is = absurd (cc is)
-    time at (shows.Dropped t id a) is = absurd (cc is)
-    time at (shows.Retired t id a) is = absurd (cc is)
-    time at (shows.Began t id a epoch cause) is = absurd (cc is)
-    time at (shows.Untaken t id why) is = absurd (cc is)
-    time at (shows.Framed k t sec xs) is = absurd (cc is)
-    time at (shows.HeardMka k t verdict) is = absurd (cc is)
-    time at (shows.Claimed t a epoch pn) is = absurd (cc is)
-    time at (shows.Unclaimed t why) is = absurd (cc is)
-    time at (shows.Arrived k t arrival) is = absurd (cc is)
+    time at _ is = absurd (cc is)
 
 -- ---- a key is touched
 
 pub opens-none : (s : ℕ) (an : AssociationNumber) (at now : ℕ) (fact : Fact) → installs at fact ≡ None
     → opened s an now fact ≡ []
 opens-none s an at now (shows.Installed t id a epoch sak) is = absurd (cc is)
-opens-none s an at now (shows.Life t mi) is = refl
-opens-none s an at now (shows.Ticked t tick next) is = refl
-opens-none s an at now (shows.Server t mi) is = refl
-opens-none s an at now (shows.Dropped t id a) is = refl
-opens-none s an at now (shows.Retired t id a) is = refl
-opens-none s an at now (shows.Began t id a epoch cause) is = refl
-opens-none s an at now (shows.Untaken t id why) is = refl
-opens-none s an at now (shows.Framed k t sec xs) is = refl
-opens-none s an at now (shows.HeardMka k t verdict) is = refl
-opens-none s an at now (shows.Claimed t a epoch pn) is = refl
-opens-none s an at now (shows.Unclaimed t why) is = refl
-opens-none s an at now (shows.Arrived k t arrival) is = refl
+opens-none s an at now _ is = refl
 
 pub touched-lane : (at : ℕ) (fact : Fact) (old new : Rows) → installs at fact ≡ None
     → ((an : AssociationNumber) → IsTouched at (turn_by (place fact) an fact) (row_in old an) (row_in new an))
@@ -218,14 +185,7 @@ elsewhere s an at (shows.Began t id a epoch cause) apart = record {
   turn = ap (λ (b : Bool). if b then Some (if same_an a an then Begins else Relieves) else None) (unlike t s apart);
   none = refl;
 }
-elsewhere s an at (shows.Ticked t now next) apart = record { turn = refl; none = refl }
-elsewhere s an at (shows.Server t mi) apart = record { turn = refl; none = refl }
-elsewhere s an at (shows.Untaken t id why) apart = record { turn = refl; none = refl }
-elsewhere s an at (shows.Framed k t sec xs) apart = record { turn = refl; none = refl }
-elsewhere s an at (shows.HeardMka k t verdict) apart = record { turn = refl; none = refl }
-elsewhere s an at (shows.Claimed t a epoch pn) apart = record { turn = refl; none = refl }
-elsewhere s an at (shows.Unclaimed t why) apart = record { turn = refl; none = refl }
-elsewhere s an at (shows.Arrived k t arrival) apart = record { turn = refl; none = refl }
+elsewhere s an at _ apart = record { turn = refl; none = refl }
 
 pub nothing-after : (s : ℕ) (an : AssociationNumber) (at : ℕ) (fact : Fact) (old new : Columns Span)
     → IsNothing s an at fact → new ≡ old → IsRowAfter s an at fact old new

@@ -111,18 +111,7 @@ opens s an at (shows.Installed t id a epoch sak) = go ((t == s) && same_an a an)
       refl,
     )
     go false e = inl (ap (λ (b : Bool). if b then new ∷ [] else []) e)
-opens s an at (shows.Life t mi) = inl refl
-opens s an at (shows.Ticked t now next) = inl refl
-opens s an at (shows.Server t mi) = inl refl
-opens s an at (shows.Dropped t id a) = inl refl
-opens s an at (shows.Retired t id a) = inl refl
-opens s an at (shows.Began t id a epoch cause) = inl refl
-opens s an at (shows.Untaken t id why) = inl refl
-opens s an at (shows.Framed k t sec xs) = inl refl
-opens s an at (shows.HeardMka k t verdict) = inl refl
-opens s an at (shows.Claimed t a epoch pn) = inl refl
-opens s an at (shows.Unclaimed t why) = inl refl
-opens s an at (shows.Arrived k t arrival) = inl refl
+opens s an at _ = inl refl
 
 pub ends : (at : ℕ) (why : Why) (x : Span) → HasEnded (touched at (Some (Ends why)) x)
 ends at why x = go x.ended refl

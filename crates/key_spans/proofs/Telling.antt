@@ -152,14 +152,7 @@ module _ (s : ℕ) (an : AssociationNumber) where
       by_test (t == s)
       (λ y. by_test (same_an a an) (λ z. rw (y, z) (begins-all o)) (λ z. rw (y, z) (yields-all o)))
       (λ y. rw y (same o))
-  follows at (shows.Ticked t now next) o = same o
-  follows at (shows.Server t mi) o = same o
-  follows at (shows.Untaken t id why) o = same o
-  follows at (shows.Framed k t sec xs) o = same o
-  follows at (shows.HeardMka k t verdict) o = same o
-  follows at (shows.Claimed t a epoch pn) o = same o
-  follows at (shows.Unclaimed t why) o = same o
-  follows at (shows.Arrived k t arrival) o = same o
+  follows at _ o = same o
 
   -- facts more, and what they tell
   told-more : (before facts : List Fact) (o : Option Tell)

@@ -65,16 +65,7 @@ moves-more s (facts.Dropped t id an) k j is = elim (cases_Bool (t == s)) [
       let n = same-kept (ended an k) j e in let m = ended-kept an k in omega (arith, n, m))
   | inr other ↦ (let e : Some k ≡ Some j = rw other at is in same-kept k j e)
 ]
-moves-more s (facts.Life t mi) k j is = same-kept k j is
-moves-more s (facts.Ticked t n next) k j is = same-kept k j is
-moves-more s (facts.Server t mi) k j is = same-kept k j is
-moves-more s (facts.Retired t id an) k j is = same-kept k j is
-moves-more s (facts.Untaken t id why) k j is = same-kept k j is
-moves-more s (facts.Framed n t sec octets) k j is = same-kept k j is
-moves-more s (facts.HeardMka n t verdict) k j is = same-kept k j is
-moves-more s (facts.Claimed t an epoch pn) k j is = same-kept k j is
-moves-more s (facts.Unclaimed t why) k j is = same-kept k j is
-moves-more s (facts.Arrived n t arrival) k j is = same-kept k j is
+moves-more s _ k j is = same-kept k j is
 
 -- what the first of some facts leaves
 then-follows : (s : ℕ) (f : Fact) (later : List Fact) (k j : Carried) → follow s (f ∷ later) k ≡ Some j

@@ -306,34 +306,16 @@ has-joined cs s c d seat at is learned = record {
 -- ---- facts
 
 moves-own : (f : Fact) (s : ℕ) (k : Carried) → s ≡ place f → moves s f k ≡ moved f k
-moves-own (facts.Life t mi) s k e = refl
-moves-own (facts.Ticked t n next) s k e = refl
-moves-own (facts.Server t mi) s k e = refl
 moves-own (facts.Dropped t id an) s k e = let y : (t == s) ≡ true = eq-eqb t s (sym e) in rw y refl
-moves-own (facts.Retired t id an) s k e = refl
 moves-own (facts.Began t id an epoch cause) s k e = let y : (t == s) ≡ true = eq-eqb t s (sym e) in rw y refl
 moves-own (facts.Installed t id an epoch sak) s k e = let y : (t == s) ≡ true = eq-eqb t s (sym e) in rw y refl
-moves-own (facts.Untaken t id why) s k e = refl
-moves-own (facts.Framed n t sec octets) s k e = refl
-moves-own (facts.HeardMka n t verdict) s k e = refl
-moves-own (facts.Claimed t an epoch pn) s k e = refl
-moves-own (facts.Unclaimed t why) s k e = refl
-moves-own (facts.Arrived n t arrival) s k e = refl
+moves-own _ s k e = refl
 
 moves-other : (f : Fact) (s : ℕ) (k : Carried) → s ≢ place f → moves s f k ≡ Some k
-moves-other (facts.Life t mi) s k e = refl
-moves-other (facts.Ticked t n next) s k e = refl
-moves-other (facts.Server t mi) s k e = refl
 moves-other (facts.Dropped t id an) s k e = let y : (t == s) ≡ false = ne_eqb t s (λ z. e (sym z)) in rw y refl
-moves-other (facts.Retired t id an) s k e = refl
 moves-other (facts.Began t id an epoch cause) s k e = let y : (t == s) ≡ false = ne_eqb t s (λ z. e (sym z)) in rw y refl
 moves-other (facts.Installed t id an epoch sak) s k e = let y : (t == s) ≡ false = ne_eqb t s (λ z. e (sym z)) in rw y refl
-moves-other (facts.Untaken t id why) s k e = refl
-moves-other (facts.Framed n t sec octets) s k e = refl
-moves-other (facts.HeardMka n t verdict) s k e = refl
-moves-other (facts.Claimed t an epoch pn) s k e = refl
-moves-other (facts.Unclaimed t why) s k e = refl
-moves-other (facts.Arrived n t arrival) s k e = refl
+moves-other _ s k e = refl
 
 then-some : (o : Option Carried) → option_and_then (λ (k : Carried). Some k) o ≡ o
 then-some None = refl
@@ -355,18 +337,7 @@ some-mapped (Some h) some = refl
 -- the card of a held key is there
 pub has-card : (settings : Settings) (r : Run) (f : Fact) (card : Option Card) → card ≡ card_held settings r f → AreHeld settings r (f ∷ []) → HasCard f card
 has-card settings r (facts.Installed s id an epoch sak) card is held = ap is_some is ∙ some-mapped (held_at settings s r an) (held s id an epoch sak (0, omega arith, refl))
-has-card settings r (facts.Life s mi) card is held = tt
-has-card settings r (facts.Ticked s at next) card is held = tt
-has-card settings r (facts.Server s mi) card is held = tt
-has-card settings r (facts.Dropped s id an) card is held = tt
-has-card settings r (facts.Retired s id an) card is held = tt
-has-card settings r (facts.Began s id an epoch cause) card is held = tt
-has-card settings r (facts.Untaken s id why) card is held = tt
-has-card settings r (facts.Framed n s sec octets) card is held = tt
-has-card settings r (facts.HeardMka n s verdict) card is held = tt
-has-card settings r (facts.Claimed s an epoch pn) card is held = tt
-has-card settings r (facts.Unclaimed s why) card is held = tt
-has-card settings r (facts.Arrived n s arrival) card is held = tt
+has-card settings r _ card is held = tt
 
 -- the words of one station by its own fact
 abbrev Moved : (Account → ControlView → Type 0) → Fact → Option Card → ControlAt → ControlAt → Type 0

@@ -20,18 +20,7 @@ use Rattle.transcript_capture.specs.Packets.{frame_of, frames, packet_of, packet
 one-frame : (n : ℕ) (fact : Fact) (ps : List Packet) (fs : List (List ℕ)) → map (λ p. p.octets) ps ≡ fs
     → map (λ p. p.octets) (packet_of n fact ++ ps) ≡ frame_of fact ++ fs
 one-frame n (shows.Framed k s sec octets) ps fs e = ap (λ (l : List (List ℕ)). octets ∷ l) e
-one-frame n (shows.Life s mi) ps fs e = e
-one-frame n (shows.Ticked s at next) ps fs e = e
-one-frame n (shows.Server s mi) ps fs e = e
-one-frame n (shows.Dropped s id an) ps fs e = e
-one-frame n (shows.Retired s id an) ps fs e = e
-one-frame n (shows.Began s id an epoch cause) ps fs e = e
-one-frame n (shows.Installed s id an epoch sak) ps fs e = e
-one-frame n (shows.Untaken s id why) ps fs e = e
-one-frame n (shows.HeardMka k s verdict) ps fs e = e
-one-frame n (shows.Claimed s an epoch pn) ps fs e = e
-one-frame n (shows.Unclaimed s why) ps fs e = e
-one-frame n (shows.Arrived k s arrival) ps fs e = e
+one-frame n _ ps fs e = e
 
 octets-after : (earlier facts : List Fact) → map (λ p. p.octets) (packets_after earlier facts) ≡ frames facts
 octets-after earlier [] = refl

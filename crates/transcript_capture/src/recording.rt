@@ -53,18 +53,7 @@ impl Recording {
     {
         match fact {
             Fact::Framed { octets, .. } => self.write(octets.as_slice(), sink),
-            Fact::Ticked { .. }
-            | Fact::Life { .. }
-            | Fact::Server { .. }
-            | Fact::Dropped { .. }
-            | Fact::Retired { .. }
-            | Fact::Began { .. }
-            | Fact::Installed { .. }
-            | Fact::Untaken { .. }
-            | Fact::HeardMka { .. }
-            | Fact::Claimed { .. }
-            | Fact::Unclaimed { .. }
-            | Fact::Arrived { .. } => {
+            _ => {
                 self.clock.hear(fact);
                 Ok(())
             }

@@ -127,18 +127,7 @@ installed (shows.Installed s i an epoch sak) id named e = record {
   id_is = ap (λ (p : KeyId × Named). p.0) (some-same e);
   named_is = ap (λ (p : KeyId × Named). p.1) (some-same e);
 }
-installed (shows.Life s mi) id named e = absurd (cc e)
-installed (shows.Ticked s at next) id named e = absurd (cc e)
-installed (shows.Server s mi) id named e = absurd (cc e)
-installed (shows.Dropped s i an) id named e = absurd (cc e)
-installed (shows.Retired s i an) id named e = absurd (cc e)
-installed (shows.Began s i an epoch cause) id named e = absurd (cc e)
-installed (shows.Untaken s i why) id named e = absurd (cc e)
-installed (shows.Framed k s sec xs) id named e = absurd (cc e)
-installed (shows.HeardMka k s verdict) id named e = absurd (cc e)
-installed (shows.Claimed s an epoch pn) id named e = absurd (cc e)
-installed (shows.Unclaimed s why) id named e = absurd (cc e)
-installed (shows.Arrived k s arrival) id named e = absurd (cc e)
+installed _ id named e = absurd (cc e)
 
 pub no-key-pair : (r : Run) → OneKey r → (a b : ℕ) → BreaksOneKey (facts_of r) a b → ⊥
 unfolding installs
@@ -191,18 +180,7 @@ here-under (shows.Installed t i an e k) s epoch sak is = go ((t == s) && (e == e
       sak_is = some-same is;
     }
     go false passes is = absurd (cc is)
-here-under (shows.Life s mi) t epoch sak is = absurd (cc is)
-here-under (shows.Ticked s at next) t epoch sak is = absurd (cc is)
-here-under (shows.Server s mi) t epoch sak is = absurd (cc is)
-here-under (shows.Dropped s i an) t epoch sak is = absurd (cc is)
-here-under (shows.Retired s i an) t epoch sak is = absurd (cc is)
-here-under (shows.Began s i an e cause) t epoch sak is = absurd (cc is)
-here-under (shows.Untaken s i why) t epoch sak is = absurd (cc is)
-here-under (shows.Framed k s sec xs) t epoch sak is = absurd (cc is)
-here-under (shows.HeardMka k s verdict) t epoch sak is = absurd (cc is)
-here-under (shows.Claimed s an e pn) t epoch sak is = absurd (cc is)
-here-under (shows.Unclaimed s why) t epoch sak is = absurd (cc is)
-here-under (shows.Arrived k s arrival) t epoch sak is = absurd (cc is)
+here-under _ t epoch sak is = absurd (cc is)
 
 in-under : (facts : List Fact) (s epoch : ℕ) (sak : Secret) → sak_in facts s epoch ≡ Some sak
     → (f : Fact) × In f facts × IsUnder f s epoch sak
@@ -274,18 +252,7 @@ claimed facts (shows.Claimed s an epoch pn) u e = go (sak_in facts s epoch) refl
           pn_is = ap (λ (w : Use). w.pn) same;
           sak_is = some ∙ ap (λ (w : Use). Some w.sak) same;
         }
-claimed facts (shows.Life s mi) u e = absurd (cc e)
-claimed facts (shows.Ticked s at next) u e = absurd (cc e)
-claimed facts (shows.Server s mi) u e = absurd (cc e)
-claimed facts (shows.Dropped s i an) u e = absurd (cc e)
-claimed facts (shows.Retired s i an) u e = absurd (cc e)
-claimed facts (shows.Began s i an epoch cause) u e = absurd (cc e)
-claimed facts (shows.Installed s i an epoch sak) u e = absurd (cc e)
-claimed facts (shows.Untaken s i why) u e = absurd (cc e)
-claimed facts (shows.Framed k s sec xs) u e = absurd (cc e)
-claimed facts (shows.HeardMka k s verdict) u e = absurd (cc e)
-claimed facts (shows.Unclaimed s why) u e = absurd (cc e)
-claimed facts (shows.Arrived k s arrival) u e = absurd (cc e)
+claimed facts _ u e = absurd (cc e)
 
 -- the newer of two facts with different places in a ledger differs from the older
 apart-in : {A B : Type 0} (read : Fact → Option A) (g : A → B) (before after : List Fact) (x y : Fact) (a b : A)

@@ -39,17 +39,7 @@ takes-kept number (shows.Installed s id an epoch sak) old new e is =
     installs-kept number s epoch id (record { an = an; sak = sak }) old new (sak_at old s epoch) e is
 takes-kept number (shows.Claimed s an epoch pn) old new e is =
     claims-kept number (station_of s) pn old new (sak_at old s epoch) e is
-takes-kept number (shows.Arrived k s arrival) old new e is = absurd (cc is.0)
-takes-kept number (shows.Life s mi) old new e is = absurd (cc is.0)
-takes-kept number (shows.Ticked s at next) old new e is = absurd (cc is.0)
-takes-kept number (shows.Server s mi) old new e is = absurd (cc is.0)
-takes-kept number (shows.Dropped s id an) old new e is = absurd (cc is.0)
-takes-kept number (shows.Retired s id an) old new e is = absurd (cc is.0)
-takes-kept number (shows.Began s id an epoch cause) old new e is = absurd (cc is.0)
-takes-kept number (shows.Untaken s id why) old new e is = absurd (cc is.0)
-takes-kept number (shows.Framed k s sec xs) old new e is = absurd (cc is.0)
-takes-kept number (shows.HeardMka k s verdict) old new e is = absurd (cc is.0)
-takes-kept number (shows.Unclaimed s why) old new e is = absurd (cc is.0)
+takes-kept number _ old new e is = absurd (cc is.0)
 
 pub takes-life : (number : ℕ) (fact : Fact) (old new : Maps) (e : CheckError) (s : ℕ) (mi : Mi)
     → Takes number fact old new (Err e) → fact ≡ shows.Life s mi → ⊥
@@ -153,18 +143,7 @@ module _ (octets : List ℕ) (old : Standing) (after : Known) (new : Maps) (fact
 
   of-life : (f : Fact) → IsLife f → (s : ℕ) × (mi : Mi) × (f ≡ shows.Life s mi)
   of-life (shows.Life s mi) life = (s, mi, refl)
-  of-life (shows.Ticked s at next) life = absurd life
-  of-life (shows.Server s mi) life = absurd life
-  of-life (shows.Dropped s id an) life = absurd life
-  of-life (shows.Retired s id an) life = absurd life
-  of-life (shows.Began s id an epoch cause) life = absurd life
-  of-life (shows.Installed s id an epoch sak) life = absurd life
-  of-life (shows.Untaken s id why) life = absurd life
-  of-life (shows.Framed k s sec xs) life = absurd life
-  of-life (shows.HeardMka k s verdict) life = absurd life
-  of-life (shows.Claimed s an epoch pn) life = absurd life
-  of-life (shows.Unclaimed s why) life = absurd life
-  of-life (shows.Arrived k s arrival) life = absurd life
+  of-life _ life = absurd life
 
   pub line-kept : (r : Result Unit CheckError) → IsNote fact old.maps new r
       → OnErr r (standing after new ≡ old)
@@ -184,17 +163,7 @@ module _ (octets : List ℕ) (old : Standing) (after : Known) (new : Maps) (fact
 free-frame : (facts : List Fact) (fact : Fact) → IsOfFrame fact → refusal facts fact ≡ None
 free-frame facts (shows.Framed k s sec xs) frame = refl
 free-frame facts (shows.Arrived k s arrival) frame = refl
-free-frame facts (shows.Installed s id an epoch sak) frame = absurd frame
-free-frame facts (shows.Claimed s an epoch pn) frame = absurd frame
-free-frame facts (shows.Life s mi) frame = absurd frame
-free-frame facts (shows.Ticked s at next) frame = absurd frame
-free-frame facts (shows.Server s mi) frame = absurd frame
-free-frame facts (shows.Dropped s id an) frame = absurd frame
-free-frame facts (shows.Retired s id an) frame = absurd frame
-free-frame facts (shows.Began s id an epoch cause) frame = absurd frame
-free-frame facts (shows.Untaken s id why) frame = absurd frame
-free-frame facts (shows.HeardMka k s verdict) frame = absurd frame
-free-frame facts (shows.Unclaimed s why) frame = absurd frame
+free-frame facts _ frame = absurd frame
 
 -- what is known then: whether it is read as some fact, and where memory was wanting, as which
 pub record IsUnread (known : Known) (octets : List ℕ) (fault : FactError) : Type 0 where

@@ -218,18 +218,7 @@ in-sak (g ∷ fs) fact i (inl same) is =
         let one : s ≡ i.station = ap (λ (w : Install). w.station) it in
         let two : e ≡ i.epoch = ap (λ (w : Install). w.epoch) it in
         rw (eq-eqb s i.station one, eq-eqb e i.epoch two) refl
-    go (shows.Life s mi) f = absurd (cc f)
-    go (shows.Ticked s at next) f = absurd (cc f)
-    go (shows.Server s mi) f = absurd (cc f)
-    go (shows.Dropped s id an) f = absurd (cc f)
-    go (shows.Retired s id an) f = absurd (cc f)
-    go (shows.Began s id an e cause) f = absurd (cc f)
-    go (shows.Untaken s id why) f = absurd (cc f)
-    go (shows.Framed k s sec xs) f = absurd (cc f)
-    go (shows.HeardMka k s verdict) f = absurd (cc f)
-    go (shows.Claimed s an e pn) f = absurd (cc f)
-    go (shows.Unclaimed s why) f = absurd (cc f)
-    go (shows.Arrived k s arrival) f = absurd (cc f)
+    go _ f = absurd (cc f)
 in-sak (g ∷ fs) fact i (inr later) is =
     or-some (sak_here i.station i.epoch g) (sak_in fs i.station i.epoch) (in-sak fs fact i later is)
 
@@ -347,17 +336,7 @@ module _ (settings : Settings) (users : List UserFrame) (laws : Laws settings us
       ∙ sym (append_assoc (facts_of r) pre (shows.Installed s id an epoch sak ∷ post))))
   unrefused x r pre (shows.Claimed s an epoch pn) post stepped fresh honest whole =
       claim-known x r pre post s an epoch pn stepped fresh honest whole
-  unrefused x r pre (shows.Life s mi) post stepped fresh honest whole = refl
-  unrefused x r pre (shows.Ticked s at next) post stepped fresh honest whole = refl
-  unrefused x r pre (shows.Server s mi) post stepped fresh honest whole = refl
-  unrefused x r pre (shows.Dropped s id an) post stepped fresh honest whole = refl
-  unrefused x r pre (shows.Retired s id an) post stepped fresh honest whole = refl
-  unrefused x r pre (shows.Began s id an epoch cause) post stepped fresh honest whole = refl
-  unrefused x r pre (shows.Untaken s id why) post stepped fresh honest whole = refl
-  unrefused x r pre (shows.Framed k s sec xs) post stepped fresh honest whole = refl
-  unrefused x r pre (shows.HeardMka k s verdict) post stepped fresh honest whole = refl
-  unrefused x r pre (shows.Unclaimed s why) post stepped fresh honest whole = refl
-  unrefused x r pre (shows.Arrived k s arrival) post stepped fresh honest whole = refl
+  unrefused x r pre _ post stepped fresh honest whole = refl
 
   walk : (ns more : List Name) (base fs : List Fact) → All (IsFact ns) fs
       → ((pre : List Fact) (fact : Fact) (post : List Fact) → fs ≡ pre ++ fact ∷ post

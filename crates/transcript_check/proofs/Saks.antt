@@ -148,28 +148,8 @@ entered facts (shows.Installed s id an epoch sak) old new r are step =
 entered facts (shows.Claimed s an epoch pn) old new r are step =
     by-claim facts new s an epoch pn (subst (λ saks. AreSaksOf facts saks) (sym step.1) are)
     (sak_in facts s epoch) refl r (subst (λ o. Finds o r) (are s epoch) step.0)
-entered facts (shows.Life s mi) old new r are step =
-    others facts (shows.Life s mi) old new r are step refl (λ t e. refl)
-entered facts (shows.Ticked s at next) old new r are step =
-    others facts (shows.Ticked s at next) old new r are step refl (λ t e. refl)
-entered facts (shows.Server s mi) old new r are step =
-    others facts (shows.Server s mi) old new r are step refl (λ t e. refl)
-entered facts (shows.Dropped s id an) old new r are step =
-    others facts (shows.Dropped s id an) old new r are step refl (λ t e. refl)
-entered facts (shows.Retired s id an) old new r are step =
-    others facts (shows.Retired s id an) old new r are step refl (λ t e. refl)
-entered facts (shows.Began s id an epoch cause) old new r are step =
-    others facts (shows.Began s id an epoch cause) old new r are step refl (λ t e. refl)
-entered facts (shows.Untaken s id why) old new r are step =
-    others facts (shows.Untaken s id why) old new r are step refl (λ t e. refl)
-entered facts (shows.Framed k s sec xs) old new r are step =
-    others facts (shows.Framed k s sec xs) old new r are step refl (λ t e. refl)
-entered facts (shows.HeardMka k s verdict) old new r are step =
-    others facts (shows.HeardMka k s verdict) old new r are step refl (λ t e. refl)
-entered facts (shows.Unclaimed s why) old new r are step =
-    others facts (shows.Unclaimed s why) old new r are step refl (λ t e. refl)
-entered facts (shows.Arrived k s arrival) old new r are step =
-    others facts (shows.Arrived k s arrival) old new r are step refl (λ t e. refl)
+entered facts other old new r are step =
+    others facts other old new r are step refl (λ t e. refl)
 
 -- ---- what an error leaves
 
@@ -187,18 +167,7 @@ pub enters-kept : (fact : Fact) (old new : Saks) (r : Result (Unit {0}) CheckErr
     → Enters fact old new r → OnErr r (new ≡ old)
 enters-kept (shows.Installed s id an epoch sak) old new r step =
     opens-kept s epoch sak old new (sak_under old s epoch) r step
-enters-kept (shows.Claimed s an epoch pn) old new r step = same-kept old new r step.1
-enters-kept (shows.Life s mi) old new r step = same-kept old new r step.1
-enters-kept (shows.Ticked s at next) old new r step = same-kept old new r step.1
-enters-kept (shows.Server s mi) old new r step = same-kept old new r step.1
-enters-kept (shows.Dropped s id an) old new r step = same-kept old new r step.1
-enters-kept (shows.Retired s id an) old new r step = same-kept old new r step.1
-enters-kept (shows.Began s id an epoch cause) old new r step = same-kept old new r step.1
-enters-kept (shows.Untaken s id why) old new r step = same-kept old new r step.1
-enters-kept (shows.Framed k s sec xs) old new r step = same-kept old new r step.1
-enters-kept (shows.HeardMka k s verdict) old new r step = same-kept old new r step.1
-enters-kept (shows.Unclaimed s why) old new r step = same-kept old new r step.1
-enters-kept (shows.Arrived k s arrival) old new r step = same-kept old new r step.1
+enters-kept _ old new r step = same-kept old new r step.1
 
 pub enters-life : (fact : Fact) (old new : Saks) (r : Result (Unit {0}) CheckError) (s : ℕ) (mi : Mi)
     → Enters fact old new r → fact ≡ shows.Life s mi → is_ok r ≡ true

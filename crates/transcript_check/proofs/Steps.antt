@@ -193,18 +193,7 @@ key-goes facts fact = goes-by KeyId Named same_named named_by named_by facts fac
 of-epoch-stays : (facts : List Fact) (fact f : Fact) → IsOfEpoch facts f → IsOfEpoch (facts ++ fact ∷ []) f
 of-epoch-stays facts fact (shows.Claimed s an epoch pn) known =
     subst (λ o. IsTrue (is_some o)) (sym (sak-stays facts fact s epoch known)) known
-of-epoch-stays facts fact (shows.Life s mi) known = tt
-of-epoch-stays facts fact (shows.Ticked s at next) known = tt
-of-epoch-stays facts fact (shows.Server s mi) known = tt
-of-epoch-stays facts fact (shows.Dropped s id an) known = tt
-of-epoch-stays facts fact (shows.Retired s id an) known = tt
-of-epoch-stays facts fact (shows.Began s id an epoch cause) known = tt
-of-epoch-stays facts fact (shows.Installed s id an epoch sak) known = tt
-of-epoch-stays facts fact (shows.Untaken s id why) known = tt
-of-epoch-stays facts fact (shows.Framed k s sec xs) known = tt
-of-epoch-stays facts fact (shows.HeardMka k s verdict) known = tt
-of-epoch-stays facts fact (shows.Unclaimed s why) known = tt
-of-epoch-stays facts fact (shows.Arrived k s arrival) known = tt
+of-epoch-stays facts fact _ known = tt
 
 known-more : (facts : List Fact) (fact : Fact) (m : Maps) → StandsFor facts m → IsOfEpoch facts fact
     → (number : ℕ) (f : Fact) → fact_at (facts ++ fact ∷ []) number ≡ Some f
@@ -501,33 +490,6 @@ noted facts (shows.Arrived k s arrival) old new number r stands is less step =
         least-is (old.missed + 1) top (omega (arith, a, w, is, less)) ∙ ap (λ n. n + 1) a
     room false = let a = stands.missed in let w = missed-within facts in
         least-is (old.missed + 0) top (omega (arith, a, w, is, less)) ∙ ap (λ n. n + 0) a
-noted facts (shows.Life s mi) old new number r stands is less step =
-    others facts (shows.Life s mi) old new number old.missed stands is refl refl (λ t e. refl) tt refl
-    (stands.missed ∙ (omega arith)) r step.0 step.1
-noted facts (shows.Ticked s at next) old new number r stands is less step =
-    others facts (shows.Ticked s at next) old new number old.missed stands is refl refl (λ t e. refl) tt refl
-    (stands.missed ∙ (omega arith)) r step.0 step.1
-noted facts (shows.Server s mi) old new number r stands is less step =
-    others facts (shows.Server s mi) old new number old.missed stands is refl refl (λ t e. refl) tt refl
-    (stands.missed ∙ (omega arith)) r step.0 step.1
-noted facts (shows.Dropped s id an) old new number r stands is less step =
-    others facts (shows.Dropped s id an) old new number old.missed stands is refl refl (λ t e. refl) tt refl
-    (stands.missed ∙ (omega arith)) r step.0 step.1
-noted facts (shows.Retired s id an) old new number r stands is less step =
-    others facts (shows.Retired s id an) old new number old.missed stands is refl refl (λ t e. refl) tt refl
-    (stands.missed ∙ (omega arith)) r step.0 step.1
-noted facts (shows.Began s id an epoch cause) old new number r stands is less step =
-    others facts (shows.Began s id an epoch cause) old new number old.missed stands is refl refl (λ t e. refl) tt refl
-    (stands.missed ∙ (omega arith)) r step.0 step.1
-noted facts (shows.Untaken s id why) old new number r stands is less step =
-    others facts (shows.Untaken s id why) old new number old.missed stands is refl refl (λ t e. refl) tt refl
-    (stands.missed ∙ (omega arith)) r step.0 step.1
-noted facts (shows.Framed k s sec xs) old new number r stands is less step =
-    others facts (shows.Framed k s sec xs) old new number old.missed stands is refl refl (λ t e. refl) tt refl
-    (stands.missed ∙ (omega arith)) r step.0 step.1
-noted facts (shows.HeardMka k s verdict) old new number r stands is less step =
-    others facts (shows.HeardMka k s verdict) old new number old.missed stands is refl refl (λ t e. refl) tt refl
-    (stands.missed ∙ (omega arith)) r step.0 step.1
-noted facts (shows.Unclaimed s why) old new number r stands is less step =
-    others facts (shows.Unclaimed s why) old new number old.missed stands is refl refl (λ t e. refl) tt refl
+noted facts other old new number r stands is less step =
+    others facts other old new number old.missed stands is refl refl (λ t e. refl) tt refl
     (stands.missed ∙ (omega arith)) r step.0 step.1

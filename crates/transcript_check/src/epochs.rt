@@ -128,17 +128,7 @@ impl Epochs {
                 self.sak(*station, *epoch)?;
                 Ok(())
             }
-            Fact::Life { .. }
-            | Fact::Ticked { .. }
-            | Fact::Server { .. }
-            | Fact::Dropped { .. }
-            | Fact::Retired { .. }
-            | Fact::Began { .. }
-            | Fact::Untaken { .. }
-            | Fact::Framed { .. }
-            | Fact::HeardMka { .. }
-            | Fact::Arrived { .. }
-            | Fact::Unclaimed { .. } => Ok(()),
+            _ => Ok(()),
         }
     }
 }

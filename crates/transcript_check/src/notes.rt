@@ -267,16 +267,7 @@ impl Notes {
                 self.pass(missed_by(arrival));
                 Ok(())
             }
-            Fact::Life { .. }
-            | Fact::Ticked { .. }
-            | Fact::Server { .. }
-            | Fact::Dropped { .. }
-            | Fact::Retired { .. }
-            | Fact::Began { .. }
-            | Fact::Untaken { .. }
-            | Fact::Framed { .. }
-            | Fact::HeardMka { .. }
-            | Fact::Unclaimed { .. } => Ok(()),
+            _ => Ok(()),
         }
     }
 }

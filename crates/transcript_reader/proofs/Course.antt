@@ -71,18 +71,7 @@ module _ (law : OneFact) where
 unmarked : (names : List (List ℕ)) (fact : Fact) → marked (line_of names fact) ≡ None
 unfolding line_of
 unmarked names (shows.Life s mi) = refl
-unmarked names (shows.Ticked s at next) = refl
-unmarked names (shows.Server s mi) = refl
-unmarked names (shows.Dropped s id an) = refl
-unmarked names (shows.Retired s id an) = refl
-unmarked names (shows.Began s id an epoch cause) = refl
-unmarked names (shows.Installed s id an epoch sak) = refl
-unmarked names (shows.Untaken s id why) = refl
-unmarked names (shows.Framed k s sec octets) = refl
-unmarked names (shows.HeardMka k s verdict) = refl
-unmarked names (shows.Claimed s an epoch pn) = refl
-unmarked names (shows.Unclaimed s why) = refl
-unmarked names (shows.Arrived k s arrival) = refl
+unmarked names _ = refl
 
 one-form : (form : Option Form) (line : List ℕ) → IsOfOneGroup form → marked line ≡ None
     → form_then form line ≡ OneGroup

@@ -116,17 +116,7 @@ life-too names others after text own there says said naming =
 no-frame : (fact : Fact) → IsOfFrame fact → IsLife fact → ⊥
 no-frame (shows.Framed k s sec octets) frame life = life
 no-frame (shows.Arrived k s arrival) frame life = life
-no-frame (shows.Life s mi) frame life = frame
-no-frame (shows.Ticked s at next) frame life = frame
-no-frame (shows.Server s mi) frame life = frame
-no-frame (shows.Dropped s id an) frame life = frame
-no-frame (shows.Retired s id an) frame life = frame
-no-frame (shows.Began s id an epoch cause) frame life = frame
-no-frame (shows.Installed s id an epoch sak) frame life = frame
-no-frame (shows.Untaken s id why) frame life = frame
-no-frame (shows.HeardMka k s verdict) frame life = frame
-no-frame (shows.Claimed s an epoch pn) frame life = frame
-no-frame (shows.Unclaimed s why) frame life = frame
+no-frame _ frame life = frame
 
 pub second-read : (old : Names) (after : List Name) (text : List ℕ) (here there : Result Fact FactError)
     → length old.first ≤ most_named → IsKnown old.first text here → is_unread here ≡ false

@@ -46,18 +46,7 @@ AreOther (fact ∷ later) = AreOther later
 other-append : (a b : List Fact) → AreOther a → AreOther b → AreOther (a ++ b)
 other-append [] b first second = second
 other-append (facts.Claimed s an epoch pn ∷ a) b first second = first
-other-append (facts.Unclaimed s why ∷ a) b first second = other-append a b first second
-other-append (facts.Life s mi ∷ a) b first second = other-append a b first second
-other-append (facts.Ticked s at next ∷ a) b first second = other-append a b first second
-other-append (facts.Server s mi ∷ a) b first second = other-append a b first second
-other-append (facts.Dropped s id an ∷ a) b first second = other-append a b first second
-other-append (facts.Retired s id an ∷ a) b first second = other-append a b first second
-other-append (facts.Began s id an e cause ∷ a) b first second = other-append a b first second
-other-append (facts.Installed s id an e sak ∷ a) b first second = other-append a b first second
-other-append (facts.Untaken s id why ∷ a) b first second = other-append a b first second
-other-append (facts.Framed number s sec octets ∷ a) b first second = other-append a b first second
-other-append (facts.HeardMka frame s verdict ∷ a) b first second = other-append a b first second
-other-append (facts.Arrived frame s arrival ∷ a) b first second = other-append a b first second
+other-append (_ ∷ a) b first second = other-append a b first second
 
 other-changes : (s : ℕ) (cs : List Change) → AreOther (map (change_fact s) cs)
 other-changes s [] = tt
@@ -91,34 +80,12 @@ other-reached settings s r number octets l = by_test (is_sec octets) (λ sec. rw
 pub other-after : (s epoch : ℕ) (f : List Fact) → AreOther f → after_claim s epoch f ≡ 0
 other-after s epoch [] are = refl
 other-after s epoch (facts.Claimed t an e pn ∷ later) are = absurd are
-other-after s epoch (facts.Unclaimed t why ∷ later) are = refl
-other-after s epoch (facts.Life t mi ∷ later) are = refl
-other-after s epoch (facts.Ticked t at next ∷ later) are = refl
-other-after s epoch (facts.Server t mi ∷ later) are = refl
-other-after s epoch (facts.Dropped t id an ∷ later) are = refl
-other-after s epoch (facts.Retired t id an ∷ later) are = refl
-other-after s epoch (facts.Began t id an e cause ∷ later) are = refl
-other-after s epoch (facts.Installed t id an e sak ∷ later) are = refl
-other-after s epoch (facts.Untaken t id why ∷ later) are = refl
-other-after s epoch (facts.Framed number t sec octets ∷ later) are = refl
-other-after s epoch (facts.HeardMka frame t verdict ∷ later) are = refl
-other-after s epoch (facts.Arrived frame t arrival ∷ later) are = refl
+other-after s epoch (_ ∷ later) are = refl
 
 pub other-claims : (f : List Fact) (xs : List Claim) → AreOther f → gather claim_of f xs ≡ xs
 other-claims [] xs are = refl
 other-claims (facts.Claimed t an e pn ∷ later) xs are = absurd are
-other-claims (facts.Unclaimed t why ∷ later) xs are = other-claims later xs are
-other-claims (facts.Life t mi ∷ later) xs are = other-claims later xs are
-other-claims (facts.Ticked t at next ∷ later) xs are = other-claims later xs are
-other-claims (facts.Server t mi ∷ later) xs are = other-claims later xs are
-other-claims (facts.Dropped t id an ∷ later) xs are = other-claims later xs are
-other-claims (facts.Retired t id an ∷ later) xs are = other-claims later xs are
-other-claims (facts.Began t id an e cause ∷ later) xs are = other-claims later xs are
-other-claims (facts.Installed t id an e sak ∷ later) xs are = other-claims later xs are
-other-claims (facts.Untaken t id why ∷ later) xs are = other-claims later xs are
-other-claims (facts.Framed number t sec octets ∷ later) xs are = other-claims later xs are
-other-claims (facts.HeardMka frame t verdict ∷ later) xs are = other-claims later xs are
-other-claims (facts.Arrived frame t arrival ∷ later) xs are = other-claims later xs are
+other-claims (_ ∷ later) xs are = other-claims later xs are
 
 -- ---- next numbers
 

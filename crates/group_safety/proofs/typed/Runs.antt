@@ -92,18 +92,7 @@ air-told (fact ∷ fs) xs all are =
     one (facts.Framed k s sec octets) is f (inl e) =
         subst (λ (f : Frame). AreOctets f.octets) (sym e) is.1
     one (facts.Framed k s sec octets) is f (inr i) = are f i
-    one (facts.Life s mi) is f i = are f i
-    one (facts.Ticked s at next) is f i = are f i
-    one (facts.Server s mi) is f i = are f i
-    one (facts.Dropped s id an) is f i = are f i
-    one (facts.Retired s id an) is f i = are f i
-    one (facts.Began s id an epoch cause) is f i = are f i
-    one (facts.Installed s id an epoch sak) is f i = are f i
-    one (facts.Untaken s id why) is f i = are f i
-    one (facts.HeardMka k s verdict) is f i = are f i
-    one (facts.Claimed s an epoch pn) is f i = are f i
-    one (facts.Unclaimed s why) is f i = are f i
-    one (facts.Arrived k s arrival) is f i = are f i
+    one _ is f i = are f i
 
 slots-told : (t : ℕ) (fs : List Fact) (h : List Receiving) → All IsTypedFact fs → AreReceived h
     → AreReceived (gather (slot_change t) fs h)
@@ -132,16 +121,7 @@ slots-told t (fact ∷ fs) h all are =
             → AreReceived (with_one (cond b (Some (slot_removed an)) None) h)
         go true = are
         go false = are
-    one (facts.Life s mi) is = are
-    one (facts.Ticked s at next) is = are
-    one (facts.Server s mi) is = are
-    one (facts.Began s id an epoch cause) is = are
-    one (facts.Untaken s id why) is = are
-    one (facts.Framed k s sec octets) is = are
-    one (facts.HeardMka k s verdict) is = are
-    one (facts.Claimed s an epoch pn) is = are
-    one (facts.Unclaimed s why) is = are
-    one (facts.Arrived k s arrival) is = are
+    one _ is = are
 
 if-heard : (o : Option (List ℕ)) (h : List Receiving)
     → ((octets : List ℕ) → o ≡ Some octets → AreOctets octets) → AreReceived h

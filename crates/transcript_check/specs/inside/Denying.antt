@@ -20,17 +20,7 @@ never-unread facts (shows.Claimed s an epoch pn) is = go (sak_in facts s epoch) 
     go : (o : Option Secret) → no_epoch o ≡ Some Unread → ⊥
     go None e = cc e
     go (Some k) e = cc e
-never-unread facts (shows.Life s mi) is = cc is
-never-unread facts (shows.Ticked s at next) is = cc is
-never-unread facts (shows.Server s mi) is = cc is
-never-unread facts (shows.Dropped s id an) is = cc is
-never-unread facts (shows.Retired s id an) is = cc is
-never-unread facts (shows.Began s id an epoch cause) is = cc is
-never-unread facts (shows.Untaken s id why) is = cc is
-never-unread facts (shows.Framed k s sec xs) is = cc is
-never-unread facts (shows.HeardMka k s verdict) is = cc is
-never-unread facts (shows.Unclaimed s why) is = cc is
-never-unread facts (shows.Arrived k s arrival) is = cc is
+never-unread facts _ is = cc is
 
 -- it is read, and its fact is refused
 pub fact-denies : (known : Known) (facts : List Fact) (octets : List ℕ) (after : Known)
