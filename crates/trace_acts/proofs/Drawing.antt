@@ -15,7 +15,7 @@ use Rattle.trace_text.specs.Writing.{IsInForm, AllFit, ◌∶◌}
 use Rattle.trace_acts.specs.declared.choices.Choices.{Choices}
 use Rattle.trace_acts.specs.declared.choices.Rule.{Rule}
 use Rattle.trace_acts.specs.declared.choices.Rule.TheVariants.{Counted, Streamed, Listed}
-use Rattle.trace_acts.specs.Supply.{draw_at}
+use Rattle.trace_acts.specs.Supply.{draw_at, draws_after}
 use Rattle.trace_acts.specs.Settings.{rule_of}
 use Rattle.trace_acts.specs.Choosing.{listed_after, chosen_by}
 
@@ -47,6 +47,15 @@ list-ends [] k e = refl
 list-ends (x ∷ []) zero e = refl
 list-ends (x ∷ y ∷ xs) zero e = absurd (cc e)
 list-ends (x ∷ xs) (suc k) e = list-ends xs k e
+
+-- what is still to come after so many draws
+pub taken-draws : (rule : Rule) (taken : ℕ) → AreDraws (draw_at rule)
+    → AreDraws (draws_after rule taken)
+taken-draws rule taken draws = record {
+  shape = λ place draw is. draws.shape (taken + place) draw is;
+  ends = λ place none. let e : taken + (place + 1) ≡ taken + place + 1 = omega arith in
+      ap (λ (n : ℕ). draw_at rule n) e ∙ draws.ends (taken + place) none;
+}
 
 listed-draws : (values : List (List ℕ)) → AreBlocks values → AreDraws (draw_at (Listed values))
 listed-draws values all = record {

@@ -3,4 +3,9 @@ mod Placing
 mod Users
 mod Refusing
 mod Stations
+mod Finding
+mod Acting
+mod Telling
+mod Coming
+mod Showing
 pub mod Public

@@ -6,7 +6,7 @@ use Rattle.trace_text.specs.declared.line.Line.TheVariants as lines
 use Rattle.trace_acts.specs.declared.choices.Choices.{Choices}
 use Rattle.trace_acts.specs.declared.halt.Kind.{Kind}
 use Rattle.trace_acts.specs.Kinds.{is_allowed, or_else, where_}
-use Rattle.trace_acts.specs.Places.{is_elsewhere}
+use Rattle.trace_acts.specs.Places.{IsStation, is_elsewhere}
 
 pub or-none : (a b : Option Kind) → or_else a b ≡ None → (a ≡ None) × (b ≡ None)
 or-none None b e = (refl, e)
@@ -41,3 +41,21 @@ allowed-then (lines.Burst name workers frames destination body) chosen keyed = r
 allowed-then lines.While chosen keyed = refl
 allowed-then lines.End chosen keyed = refl
 allowed-then _ chosen keyed = refl
+
+-- a line that starts a station stands behind the first ones
+pub station-later : (line : Line) → IsStation line → is_elsewhere line ≡ false
+station-later (lines.Station name sci priority) station = refl
+station-later lines.DrawsCount station = absurd station
+station-later (lines.DrawsChaCha key) station = absurd station
+station-later (lines.DrawsList values) station = absurd station
+station-later (lines.Conf conf) station = absurd station
+station-later (lines.Window window) station = absurd station
+station-later (lines.Rekey rekey) station = absurd station
+station-later (lines.Lag lag) station = absurd station
+station-later (lines.Suite suite) station = absurd station
+station-later (lines.Flag early) station = absurd station
+station-later (lines.Group cak ckn) station = absurd station
+station-later (lines.Burst name workers frames destination body) station = absurd station
+station-later lines.While station = absurd station
+station-later lines.End station = absurd station
+station-later _ station = refl

@@ -16,7 +16,7 @@ pub use choices::{Choices, Keyed, Rule};
 pub use choosing::{choose, secret_of};
 pub use halt::{Halt, Kind, halt_of};
 pub use links::{Link, Links};
-pub use names::position;
+pub use names::{is_named, position, unknown};
 pub use putting::put;
 pub use refusals::{is_elsewhere, kind_of_fault, refusal};
 pub use setup::{settings_of, supply_of};

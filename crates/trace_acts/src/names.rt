@@ -3,7 +3,10 @@
 ghost use Rattle.std.specs.Prelude.{◌≡◌, nat_eq};
 ghost use Rattle.std.specs.List.{position_or_len};
 ghost use Rattle.std.specs.Cmp.Lexicographic.{pointwise};
+ghost use Rattle.trace_acts.specs.Kinds.{unknown};
+ghost use Rattle.trace_acts.specs.Names.{is_in};
 
+use crate::halt::Kind;
 use lan_base::Name;
 
 /// The place of a name; where there is none, the count of names.
@@ -16,4 +19,22 @@ pub fn position(names: &[Name], name: &Name) -> usize
         }
     }
     names.len()
+}
+
+/// Whether no station has this name.
+pub fn unknown(names: &[Name], name: &Name) -> Option<Kind>
+    ensures { result ≡ unknown name.now names.now }
+{
+    if is_named(names, name) {
+        None
+    } else {
+        Some(Kind::NameUnknown)
+    }
+}
+
+/// Whether a station has this name.
+pub fn is_named(names: &[Name], name: &Name) -> bool
+    ensures { result ≡ is_in name.now names.now }
+{
+    names.iter().any(|other| name.octets() == other.octets())
 }
