@@ -1,13 +1,12 @@
 -- What can be performed in a tidy world.
-use Rattle.std.proofs.Common.{◌≡◌, ◌<◌, ◌≤◌, ℕ, zero, suc, ◌+◌, ◌-◌, ◌==◌, Bool, true, false}
+use Rattle.std.proofs.Common.{◌≡◌, ◌≤◌, ℕ, ◌+◌, ◌-◌, ◌==◌, Bool, true, false}
 use Rattle.std.proofs.Common.{List, [], ◌∷◌, ◌++◌, Option, Some, None, refl, sym}
 use Rattle.std.proofs.Common.{◌∙◌, subst, arith}
-use Rattle.std.specs.Prelude.{cond, is_some, not, ◌||◌}
-use Rattle.std.specs.List.{find}
-use Rattle.lan_core.specs.declared.fact.Fact.{Fact}
+use Rattle.std.specs.Prelude.{is_some, not, ◌||◌}
+use Rattle.std.specs.List.{AllByRecursion}
 use Rattle.lan_core.specs.declared.stop.Stop.{Stop}
 use Rattle.lan_core.specs.Run.{Run}
-use Rattle.lan_core.specs.Ledgers.{air, framed, gather, with_one, frame_at}
+use Rattle.lan_core.specs.Ledgers.{air, framed, frame_at}
 use Rattle.lan_core.proofs.Public.{number-frame}
 use Rattle.cak_roll.specs.declared.event.GroupNumber.{GroupNumber}
 use Rattle.cak_roll.specs.declared.event.GroupNumber.TheVariants.{First, Second}
@@ -16,15 +15,16 @@ use Rattle.cak_roll.specs.declared.event.TwinEvent.TheVariants as twins
 use Rattle.cak_roll.specs.Twin.{TwinHappening, Twin, part_of, run_of, setting_of, takes_part}
 use Rattle.cak_roll.specs.Stepping.{happening, twin_stop}
 use Rattle.cak_roll.proofs.Public.{twin-stepped}
+use Rattle.trace_acts.proofs.Public.{comes-each, comes-span, comes-unless, find-gather}
+use Rattle.trace_acts.proofs.Public.{is-going, Lasts, not-false, world-in}
 use Rattle.twin_schedule.specs.World.{World, Kept, pair_of, count, frames, joined, sender, spread_in}
 use Rattle.twin_schedule.specs.World.{has_spread}
-use Rattle.twin_schedule.specs.Acts.{Act, nothing, refuse, exceed, happen, change, seq, look, perform}
-use Rattle.twin_schedule.specs.Acts.{Course, Goes, Stops, answered, and_then, each, span, times}
-use Rattle.twin_schedule.specs.Acts.{unless, supply, world_after}
+use Rattle.twin_schedule.specs.Acts.{Act, happen, change, seq, perform, Goes, answered, rules, span}
+use Rattle.twin_schedule.specs.Acts.{times, supply, world_after}
 use Rattle.twin_schedule.specs.Lines.{tick_in, tick_both, round, is_passed_by, pass, spread}
 use Rattle.twin_schedule.specs.Lines.{spread_group, flow_round}
 use Rattle.twin_schedule.specs.Sound.{IsTidy}
-use Rattle.twin_schedule.specs.inside.Comes.{Comes, IsGoing}
+use Rattle.twin_schedule.specs.inside.Comes.{asks, Comes}
 
 -- ---- later worlds
 
@@ -43,24 +43,6 @@ pub later-later : (w v u : World) → IsLater w v → IsLater v u → IsLater w 
 later-later w v u f g =
     record { frames = λ h number there. g.frames h number (f.frames h number there) }
 
-find-more : {A : Type 0} (p : A → Bool) (x : A) (xs : List A) → is_some (find p xs) ≡ true
-    → is_some (find p (x ∷ xs)) ≡ true
-find-more p x xs there = by (p x) where
-  by : (b : Bool) → is_some (cond b (Some x) (find p xs)) ≡ true
-  by true = refl
-  by false = there
-
-find-one : {A : Type 0} (p : A → Bool) (o : Option A) (xs : List A) → is_some (find p xs) ≡ true
-    → is_some (find p (with_one o xs)) ≡ true
-find-one p None xs there = there
-find-one p (Some x) xs there = find-more p x xs there
-
-find-gather : {A : Type 0} (p : A → Bool) (read : Fact → Option A) (facts : List Fact) (xs : List A)
-    → is_some (find p xs) ≡ true → is_some (find p (gather read facts xs)) ≡ true
-find-gather p read [] xs there = there
-find-gather p read (fact ∷ others) xs there =
-    find-gather p read others (with_one (read fact) xs) (find-one p (read fact) xs there)
-
 part-on-air : (number : ℕ) (ys r : Run) → is_some (frame_at r number) ≡ true
     → is_some (frame_at (ys ++ r) number) ≡ true
 unfolding air
@@ -78,79 +60,30 @@ later-event w event x = record {
 later-kept : (w : World) (kept : Kept) → IsLater w (record w { kept = kept })
 later-kept w kept = record { frames = λ g number there. there }
 
-goes-world : (w v u : World) → IsLater w v → Goes v ≡ Goes u → IsLater w u
-goes-world w v u l e =
-    let same : v ≡ u = cc in subst (λ (u : World). IsLater w u) same l
-
 later-answered : (w v : World) (event : TwinEvent) (stop : Option Stop) (o : Option TwinHappening)
     → answered w event stop o ≡ Goes v → IsLater w v
 later-answered w v event (Some stop) o e = absurd (cc e)
 later-answered w v event None (Some x) e =
-    goes-world w (world_after w event x) v (later-event w event x) e
-later-answered w v event None None e = goes-world w w v (later-self w) e
+    subst (λ (u : World). IsLater w u) (world-in (world_after w event x) v e) (later-event w event x)
+later-answered w v event None None e =
+    subst (λ (u : World). IsLater w u) (world-in w v e) (later-self w)
 
-later-both : (w v : World) (out : Course) (g : World → Course)
-    → ((u : World) → out ≡ Goes u → IsLater w u)
-    → ((u : World) → g u ≡ Goes v → IsLater u v) → and_then out g ≡ Goes v → IsLater w v
-later-both w v (Goes u) g first second e = later-later w u v (first u refl) (second u e)
-later-both w v (Stops u halt) g first second e = absurd (cc e)
-
-pub later : (act : Act) (w v : World) → perform act w ≡ Goes v → IsLater w v
-later nothing w v e = goes-world w w v (later-self w) e
-later (refuse kind) w v e = absurd (cc e)
-later (exceed which) w v e = absurd (cc e)
-later (happen event) w v e =
-    later-answered w v event (twin_stop (pair_of w) w.kept.users w.run event (supply w))
-    (happening (pair_of w) w.kept.users w.run event (supply w)) e
-later (change f) w v e =
-    goes-world w (record w { kept = f w.kept }) v (later-kept w (f w.kept)) e
-later (seq f g) w v e = later-both w v (perform f w) (λ u. perform g u)
-    (λ u first. later f w u first) (λ u second. later g u v second) e
-later (look f) w v e = later (f w) w v e
-
--- ---- many acts
-
-pub is-going : (out : Course) (P : World → Type 0) → ((v : World) → out ≡ Goes v → P v)
-    → IsGoing out P
-is-going (Goes v) P h = h v refl
-is-going (Stops v halt) P h = tt
-
-pub comes-span : (act : ℕ → Act) (i n : ℕ) (w : World) → IsTidy w
-    → ((k : ℕ) (v : World) → i ≤ k → k < i + n → IsLater w v → IsTidy v → Comes (act k) v)
-    → Comes (span act i n) w
-comes-span act i zero w tidy h = tt
-comes-span act i (suc n) w tidy h = (
-  h i w (omega arith) (omega arith) (later-self w) tidy,
-  is-going (perform (act i) w) (λ v. IsTidy v → Comes (span act (suc i) n) v) (λ v e tidy_v.
-      comes-span act (suc i) n v tidy_v
-      (λ k u ge lt l tidy_u. h k u (omega arith) (omega arith)
-      (later-later w v u (later (act i) w v e) l) tidy_u)),
-)
-
-pub comes-each : (act : ℕ → Act) (xs : List ℕ) (w : World) → IsTidy w
-    → ((x : ℕ) (v : World) → IsLater w v → IsTidy v → Comes (act x) v) → Comes (each act xs) w
-comes-each act [] w tidy h = tt
-comes-each act (x ∷ xs) w tidy h = (
-  h x w (later-self w) tidy,
-  is-going (perform (act x) w) (λ v. IsTidy v → Comes (each act xs) v) (λ v e tidy_v.
-      comes-each act xs v tidy_v
-      (λ y u l tidy_u. h y u (later-later w v u (later (act x) w v e) l) tidy_u)),
-)
-
-pub comes-unless : (b : Bool) (act : Act) (w : World) → (b ≡ false → Comes act w)
-    → Comes (unless b act) w
-comes-unless true act w h = tt
-comes-unless false act w h = h refl
-
-pub not-false : (b : Bool) → not b ≡ false → b ≡ true
-not-false true e = refl
-not-false false e = absurd (cc e)
+pub lasts : Lasts rules asks IsLater
+lasts = record {
+  self = later-self;
+  then_ = later-later;
+  kept = later-kept;
+  happens = λ w v event e.
+      later-answered w v event (twin_stop (pair_of w) w.kept.users w.run event (supply w))
+      (happening (pair_of w) w.kept.users w.run event (supply w)) e;
+  beside = λ none w v out e. absurd none;
+}
 
 -- ---- ticks
 
 comes-tick_in : (g : GroupNumber) (s : ℕ) (w : World) → Comes (tick_in g s) w
 comes-tick_in g s w =
-    comes-unless (not (takes_part g s w.run)) (happen (twins.Tick s g)) w
+    comes-unless rules asks (not (takes_part g s w.run)) (happen (twins.Tick s g)) w
     (λ e. (not-false (takes_part g s w.run) e, tt))
 
 pub comes-tick_both : (s : ℕ) (w : World) → Comes (tick_both s) w
@@ -161,15 +94,15 @@ comes-tick_both s w = (
 )
 
 pub comes-ticks : (s n : ℕ) (w : World) → IsTidy w → Comes (times n (tick_both s)) w
-comes-ticks s n w tidy = comes-span (λ _. tick_both s) 0 n w tidy
+comes-ticks s n w tidy = comes-span lasts (λ _. tick_both s) 0 n w tidy
     (λ k v ge lt l tidy_v. comes-tick_both s v)
 
 pub comes-round : (w : World) → IsTidy w → Comes round w
-comes-round w tidy = comes-span tick_both 0 (count w) w tidy
+comes-round w tidy = comes-span lasts tick_both 0 (count w) w tidy
     (λ k v ge lt l tidy_v. comes-tick_both k v)
 
 pub comes-rounds : (n : ℕ) (w : World) → IsTidy w → Comes (times n round) w
-comes-rounds n w tidy = comes-span (λ _. round) 0 n w tidy
+comes-rounds n w tidy = comes-span lasts (λ _. round) 0 n w tidy
     (λ k v ge lt l tidy_v. comes-round v tidy_v)
 
 -- ---- frames
@@ -181,14 +114,18 @@ or-false false b e = refl
 comes-pass : (g : GroupNumber) (number from s : ℕ) (w : World) → IsOnAir g w.run number
     → Comes (pass g number from s) w
 comes-pass g number from s w there =
-    comes-unless (is_passed_by g from s w) (happen (twins.Deliver g number s)) w
+    comes-unless rules asks (is_passed_by g from s w) (happen (twins.Deliver g number s)) w
     (λ e. ((not-false (takes_part g s w.run) (or-false (not (takes_part g s w.run)) _ e), there), tt))
+
+all-units : (xs : List ℕ) → AllByRecursion (λ x. Unit {0}) xs
+all-units [] = tt
+all-units (x ∷ xs) = (tt, all-units xs)
 
 pub comes-spread : (g : GroupNumber) (number : ℕ) (w : World) → IsTidy w → IsOnAir g w.run number
     → Comes (spread g number) w
 comes-spread g number w tidy there =
-    comes-each (pass g number (sender g number w.run)) (joined g w.run) w tidy
-    (λ s v l tidy_v. comes-pass g number (sender g number w.run) s v (l.frames g number there))
+    comes-each lasts (λ s. Unit {0}) (pass g number (sender g number w.run)) (joined g w.run) w tidy
+    (all-units (joined g w.run)) (λ s v any l tidy_v. comes-pass g number (sender g number w.run) s v (l.frames g number there))
 
 within-air : (g : GroupNumber) (number : ℕ) (w : World) → IsTidy w → 1 ≤ number
     → number ≤ frames g w.run → IsOnAir g w.run number
@@ -219,7 +156,7 @@ comes-spread_group g w tidy =
     let first = spread_in g w.kept in
     let some = frames g w.run in
     let act : ℕ → Act = λ place. spread g (place + 1) in (
-      comes-span act first (some - first) w tidy
+      comes-span lasts act first (some - first) w tidy
           (λ k v ge lt l tidy_v. comes-spread g (k + 1) v tidy_v
           (l.frames g (k + 1) (within-air g (k + 1) w tidy (omega arith) (omega (arith, ge, lt))))),
       is-going (perform (span act first (some - first)) w)
@@ -240,5 +177,5 @@ comes-flow_round w tidy = (
 )
 
 pub comes-flow : (n : ℕ) (w : World) → IsTidy w → Comes (times n flow_round) w
-comes-flow n w tidy = comes-span (λ _. flow_round) 0 n w tidy
+comes-flow n w tidy = comes-span lasts (λ _. flow_round) 0 n w tidy
     (λ k v ge lt l tidy_v. comes-flow_round v tidy_v)

@@ -1,10 +1,8 @@
 -- Acts are done one after the other.
-use Rattle.std.proofs.Common.{◌≡◌, ℕ, zero, suc, ◌+◌, ◌-◌, ◌<◌, ◌≤◌, Bool, true, false, List, []}
-use Rattle.std.proofs.Common.{◌∷◌, ◌++◌, length, drop, get_or, drop-cons, inl, inr, refl, sym, ap}
-use Rattle.std.proofs.Common.{◌∙◌, subst, append_assoc, append-nil, add-one, arith}
-use Rattle.std.specs.Prelude.{◌⊎◌, Result, Ok, Err, Option, Some, None}
+use Rattle.std.proofs.Common.{◌≡◌, Bool, true, false, ◌∷◌, ◌++◌, inl, inr, refl, sym, ap}
+use Rattle.std.proofs.Common.{◌∙◌, subst, append_assoc}
+use Rattle.std.specs.Prelude.{◌⊎◌, List, Result, Ok, Err, Option, Some, None}
 use Rattle.std.specs.Result.{IsErrAnd}
-use Rattle.std.proofs.lemmas.Result.{err_from_is_err_and}
 use Rattle.lan_core.specs.declared.stop.Stop.{Stop}
 use Rattle.lan_core.specs.declared.stop.Which.{Which}
 use Rattle.cak_roll.specs.declared.event.TwinEvent.{TwinEvent}
@@ -13,28 +11,23 @@ use Rattle.cak_roll.specs.Stepping.{happening, twin_stop}
 use Rattle.trace_acts.specs.declared.halt.Halt.{Halt}
 use Rattle.trace_acts.specs.declared.halt.Halt.TheVariants as halts
 use Rattle.lan_base.specs.declared.sink.Unwritten.{Unwritten}
+use Rattle.trace_acts.proofs.Public.{and-longer, begins-self, begins-then, going, told-both}
+use Rattle.trace_acts.proofs.Public.{told-then, grows as grows-by, handed-on as hand-on}
+use Rattle.trace_acts.proofs.Public.{IsInTurn, Leads as LeadsBy, Stays}
+pub use Rattle.trace_acts.proofs.Public.{each-end, each-err, each-step, leads-end, leads-err}
+pub use Rattle.trace_acts.proofs.Public.{leads-start, leads-step, span-end, span-exit, span-start}
+pub use Rattle.trace_acts.proofs.Public.{span-step, told-none}
 use Rattle.twin_schedule.specs.World.{World, Kept, pair_of}
-use Rattle.twin_schedule.specs.Acts.{Act, nothing, refuse, exceed, happen, change, seq, look, perform}
-use Rattle.twin_schedule.specs.Acts.{Course, Goes, Stops, and_then, each, span, supply, answered}
-use Rattle.twin_schedule.specs.Acts.{unless}
-use Rattle.twin_schedule.specs.Reports.{Report, last_reports, reports, AreTold}
+use Rattle.twin_schedule.specs.Acts.{Act, nothing, exceed, change, seq, look, perform}
+use Rattle.twin_schedule.specs.Acts.{Course, Goes, and_then, supply, answered, rules, unless}
+use Rattle.twin_schedule.specs.Reports.{Report, last_reports, reports}
 use Rattle.twin_schedule.specs.Sound.{IsTidy}
 use Rattle.twin_schedule.specs.Ends.{Moment, moment, Begins, IsReached, reported, WasTold}
 use Rattle.twin_schedule.specs.Ends.{WasBroken, Ends}
-use Rattle.twin_schedule.specs.inside.Comes.{Comes, IsGoing}
+use Rattle.twin_schedule.specs.inside.Comes.{Comes}
 use Rattle.twin_schedule.specs.inside.Doing.{DidAs}
 
 -- ---- what was shown stays
-
-pub begins-self : (xs : List Report) → Begins xs xs
-begins-self xs = record { more = []; parts = append-nil xs }
-
-pub begins-then : (xs ys zs : List Report) → Begins xs ys → Begins ys zs → Begins xs zs
-begins-then xs ys zs f g = record {
-  more = f.more ++ g.more;
-  parts = sym (append_assoc xs f.more g.more) ∙ ap (λ (l : List Report). l ++ g.more) f.parts
-      ∙ g.parts;
-}
 
 answered-begins : (w : World) (event : TwinEvent) (stop : Option Stop) (o : Option TwinHappening)
     → Begins (reports w.run) (reported (answered w event stop o))
@@ -43,77 +36,18 @@ answered-begins w event None (Some x) =
     record { more = last_reports (x ∷ w.run); parts = refl }
 answered-begins w event None None = begins-self (reports w.run)
 
-then-begins : (xs : List Report) (out : Course) (g : World → Course) → Begins xs (reported out)
-    → ((v : World) → Begins (reports v.run) (reported (g v)))
-    → Begins xs (reported (and_then out g))
-then-begins xs (Goes w) g f h = begins-then xs (reports w.run) (reported (g w)) f (h w)
-then-begins xs (Stops w halt) g f h = f
+pub stays : Stays rules reports
+stays = record {
+  happens = λ w event.
+      answered-begins w event (twin_stop (pair_of w) w.kept.users w.run event (supply w))
+      (happening (pair_of w) w.kept.users w.run event (supply w));
+  beside = λ none w out. absurd none;
+}
 
 pub grows : (act : Act) (w : World) → Begins (reports w.run) (reported (perform act w))
-grows nothing w = begins-self (reports w.run)
-grows (refuse kind) w = begins-self (reports w.run)
-grows (exceed which) w = begins-self (reports w.run)
-grows (happen event) w =
-    answered-begins w event (twin_stop (pair_of w) w.kept.users w.run event (supply w))
-    (happening (pair_of w) w.kept.users w.run event (supply w))
-grows (change f) w = begins-self (reports w.run)
-grows (seq f g) w =
-    then-begins (reports w.run) (perform f w) (λ v. perform g v) (grows f w) (λ v. grows g v)
-grows (look f) w = grows (f w) w
-
-and-longer : (out : Course) (g : Act)
-    → Begins (reported out) (reported (and_then out (λ v. perform g v)))
-and-longer (Goes w) g = grows g w
-and-longer (Stops w halt) g = begins-self (reports w.run)
-
-pub going : (out : Course) (w : World) (P : World → Type 0) → out ≡ Goes w → IsGoing out P → P w
-going out w P e h = subst (λ (o : Course). IsGoing o P) e h
-
--- a span begins with its first
-pub span-next : (f : ℕ → Act) (i n : ℕ) → i < n
-    → span f i (n - i) ≡ seq (f i) (span f (i + 1) (n - (i + 1)))
-span-next f i n lt =
-    let e : n - i ≡ suc (n - (i + 1)) = omega arith in
-    ap (λ (k : ℕ). span f i k) e ∙ ap (λ (k : ℕ). seq (f i) (span f k (n - (i + 1))))
-    (sym (add-one i))
-
-pub span-done : (f : ℕ → Act) (i n : ℕ) → n ≤ i → span f i (n - i) ≡ nothing
-span-done f i n le = let e : n - i ≡ 0 = omega arith in ap (λ (k : ℕ). span f i k) e
-
-drop-past : (xs : List ℕ) (i : ℕ) → length xs ≤ i → drop i xs ≡ []
-drop-past [] zero le = refl
-drop-past [] (suc i) le = refl
-drop-past (x ∷ xs) zero le = absurd (omega arith)
-drop-past (x ∷ xs) (suc i) le = drop-past xs i (omega arith)
-
-drop-one : (xs : List ℕ) (i : ℕ) → i < length xs
-    → drop i xs ≡ get_or xs i 0 ∷ drop (i + 1) xs
-drop-one xs i lt = rw (add-one, drop-cons xs i 0) refl
+grows act w = grows-by stays act w
 
 -- ---- what was told
-
-module _ {K : Type 0} (Took : K → Report → K → Type 0) where
-  pub told-both : (a b c : K) (xs ys : List Report) → AreTold Took a xs b → AreTold Took b ys c
-      → AreTold Took a (xs ++ ys) c
-  told-both a b c [] ys f g = subst (λ (k : K). AreTold Took k ys c) (sym f) g
-  told-both a b c (x ∷ xs) ys f g = (f.0, f.1, told-both f.0 b c xs ys f.2 g)
-
-module _ {K : Type 0} {Took : K → Report → K → Type 0} where
-  pub told-none : (w v : World) (a b : K) → v.run ≡ w.run → b ≡ a → WasTold Took w v a b
-  told-none w v a b run same = record {
-    told = [];
-    since = ap reports run ∙ sym (append-nil (reports w.run));
-    by_one = sym same;
-  }
-
-  pub told-then : (w v u : World) (a b c : K) → WasTold Took w v a b → WasTold Took v u b c
-      → WasTold Took w u a c
-  told-then w v u a b c f g = record {
-    told = f.told ++ g.told;
-    since = g.since ∙ ap (λ (l : List Report). l ++ g.told) f.since
-        ∙ append_assoc (reports w.run) f.told g.told;
-    by_one = told-both Took a b c f.told g.told f.by_one g.by_one;
-  }
 
 module _ {K : Type 0} {Took : K → Report → K → Type 0} {Broke : K → Report → K → Unwritten → Type 0}
   where
@@ -178,7 +112,7 @@ module _ {R K : Type 0} (Stands : World → R → Type 0) (Took : K → Report �
   ends-early w out g a new halt (inr h) = inr (record {
     world = h.world;
     tidy = h.tidy;
-    begins = begins-then (reports h.world.run) (reported out) _ h.begins (and-longer out g);
+    begins = begins-then (reports h.world.run) (reported out) _ h.begins (and-longer stays out g);
     cause = h.cause;
   })
 
@@ -284,10 +218,7 @@ module _ {R K : Type 0} {Stands : World → R → Type 0} {Took : K → Report �
   pub handed-on : (act : Act) (old new : Moment R K) (e : Halt) (r : Result (Unit {0}) Halt)
       → DidAs Stands Took Broke act old new (Err e) → IsErrAnd r (λ y. y ≡ e)
       → DidAs Stands Took Broke act old new r
-  handed-on act old new e r d is =
-      let p = err_from_is_err_and r is in
-      subst (λ (r : Result (Unit {0}) Halt). DidAs Stands Took Broke act old new r)
-      (sym (p.1 ∙ ap (λ (y : Halt). Err y) p.2)) d
+  handed-on act old new e r d is = hand-on (DidAs Stands Took Broke) act old new e r d is
 
   -- an error that `?` hands on, where the error is want of memory
   pub memory-any : (act : Act) (old new : Moment R K) (r : Result (Unit {0}) Halt) {e : Halt}
@@ -326,93 +257,18 @@ module _ {R K : Type 0} {Stands : World → R → Type 0} {Took : K → Report �
       (λ w reached. ap (λ (b : Bool). unless b act) (sym (never w reached.stands))) d
 
 -- what is left of an act, done from here, is the whole act done from the start
-pub record Leads {R K : Type 0} (Stands : World → R → Type 0) (Took : K → Report → K → Type 0)
-    (Broke : K → Report → K → Unwritten → Type 0) (whole : Act) (old : Moment R K) (left : Act)
-    (now : Moment R K) : Type 0 where
-  pub leads : (new : Moment R K) (r : Result (Unit {0}) Halt)
-      → DidAs Stands Took Broke left now new r → DidAs Stands Took Broke whole old new r
+abbrev pub Leads : {R K : Type 0} → (World → R → Type 0) → (K → Report → K → Type 0)
+    → (K → Report → K → Unwritten → Type 0) → Act → Moment R K → Act → Moment R K → Type 0
+Leads Stands Took Broke whole old left now = LeadsBy (DidAs Stands Took Broke) whole old left now
 
 module _ {R K : Type 0} {Stands : World → R → Type 0} {Took : K → Report → K → Type 0}
     {Broke : K → Report → K → Unwritten → Type 0} where
-  pub leads-start : (f : Act) (now : Moment R K) → Leads Stands Took Broke f now f now
-  leads-start f now = record { leads = λ new r d. d }
-
-  pub leads-step : (f g h : Act) (old now next : Moment R K)
-      → Leads Stands Took Broke f old (seq h g) now
-      → DidAs Stands Took Broke h now next (Ok tt) → Leads Stands Took Broke f old g next
-  leads-step f g h old now next l d =
-      record { leads = λ new r e. l.leads new r (then-ok h g now next new r d e) }
-
-  pub leads-err : (f g h : Act) (old now next : Moment R K) (e : Halt)
-      → Leads Stands Took Broke f old (seq h g) now
-      → DidAs Stands Took Broke h now next (Err e) → DidAs Stands Took Broke f old next (Err e)
-  leads-err f g h old now next e l d = l.leads next (Err e) (then-err h g now next e d)
-
-  pub leads-end : (f : Act) (old now : Moment R K) → Leads Stands Took Broke f old nothing now
-      → DidAs Stands Took Broke f old now (Ok tt)
-  leads-end f old now l = l.leads now (Ok tt) (nothing-does now)
+  pub in-turn : IsInTurn (DidAs Stands Took Broke)
+  in-turn = record { none = nothing-does; early = then-err; both = then-ok }
 
   -- what is left of an act that looks is what it is here
   pub look-leads : (f : World → Act) (here : Act) (now : Moment R K)
       → ((w : World) → IsReached Stands w now.value → here ≡ f w)
       → Leads Stands Took Broke (look f) now here now
   look-leads f here now same =
-      record { leads = λ new r d. look-does f here now new r same d }
-
-  pub span-step : (f : ℕ → Act) (i n : ℕ) (whole : Act) (old now next : Moment R K) → i < n
-      → Leads Stands Took Broke whole old (span f i (n - i)) now
-      → DidAs Stands Took Broke (f i) now next (Ok tt)
-      → Leads Stands Took Broke whole old (span f (i + 1) (n - (i + 1))) next
-  span-step f i n whole old now next lt l d =
-      leads-step whole _ (f i) old now next
-      (subst (λ (a : Act). Leads Stands Took Broke whole old a now) (span-next f i n lt) l) d
-
-  -- the exit of a `?`
-  pub span-exit : (f : ℕ → Act) (i n : ℕ) (whole : Act) (old now next : Moment R K) (e : Halt)
-      (r : Result (Unit {0}) Halt) → i < n
-      → Leads Stands Took Broke whole old (span f i (n - i)) now
-      → DidAs Stands Took Broke (f i) now next (Err e) → IsErrAnd r (λ y. y ≡ e)
-      → DidAs Stands Took Broke whole old next r
-  span-exit f i n whole old now next e r lt l d is =
-      handed-on whole old next e r (leads-err whole _ (f i) old now next e
-      (subst (λ (a : Act). Leads Stands Took Broke whole old a now) (span-next f i n lt) l) d) is
-
-  pub span-end : (f : ℕ → Act) (i n : ℕ) (whole : Act) (old now : Moment R K) → n ≤ i
-      → Leads Stands Took Broke whole old (span f i (n - i)) now
-      → DidAs Stands Took Broke whole old now (Ok tt)
-  span-end f i n whole old now le l =
-      leads-end whole old now
-      (subst (λ (a : Act). Leads Stands Took Broke whole old a now) (span-done f i n le) l)
-
-  pub span-start : (f : ℕ → Act) (n : ℕ) (now : Moment R K)
-      → Leads Stands Took Broke (span f 0 n) now (span f 0 (n - 0)) now
-  span-start f n now = let e : n - 0 ≡ n = omega arith in rw e (leads-start (span f 0 n) now)
-
-  -- each begins with its first
-  pub each-step : (f : ℕ → Act) (xs : List ℕ) (i : ℕ) (whole : Act)
-      (old now next : Moment R K) → i < length xs
-      → Leads Stands Took Broke whole old (each f (drop i xs)) now
-      → DidAs Stands Took Broke (f (get_or xs i 0)) now next (Ok tt)
-      → Leads Stands Took Broke whole old (each f (drop (i + 1) xs)) next
-  each-step f xs i whole old now next lt l d =
-      leads-step whole _ (f (get_or xs i 0)) old now next
-      (subst (λ (ys : List ℕ). Leads Stands Took Broke whole old (each f ys) now)
-      (drop-one xs i lt) l) d
-
-  pub each-err : (f : ℕ → Act) (xs : List ℕ) (i : ℕ) (whole : Act) (old now next : Moment R K)
-      (e : Halt) (r : Result (Unit {0}) Halt) → i < length xs
-      → Leads Stands Took Broke whole old (each f (drop i xs)) now
-      → DidAs Stands Took Broke (f (get_or xs i 0)) now next (Err e) → IsErrAnd r (λ y. y ≡ e)
-      → DidAs Stands Took Broke whole old next r
-  each-err f xs i whole old now next e r lt l d is =
-      handed-on whole old next e r (leads-err whole _ (f (get_or xs i 0)) old now next e
-      (subst (λ (ys : List ℕ). Leads Stands Took Broke whole old (each f ys) now)
-      (drop-one xs i lt) l) d) is
-
-  pub each-end : (f : ℕ → Act) (xs : List ℕ) (i : ℕ) (whole : Act) (old now : Moment R K)
-      → length xs ≤ i → Leads Stands Took Broke whole old (each f (drop i xs)) now
-      → DidAs Stands Took Broke whole old now (Ok tt)
-  each-end f xs i whole old now le l =
-      leads-end whole old now
-      (subst (λ (ys : List ℕ). Leads Stands Took Broke whole old (each f ys) now)
-      (drop-past xs i le) l)
+      record { turn = in-turn; leads = λ new r d. look-does f here now new r same d }

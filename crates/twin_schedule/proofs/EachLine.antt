@@ -1,29 +1,21 @@
 -- A replay does lines one after the other.
-use Rattle.std.proofs.Common.{◌≡◌, ℕ, List, [], ◌∷◌, ◌++◌, refl, sym, ap, ◌∙◌, subst}
+use Rattle.std.proofs.Common.{◌≡◌, ℕ, List, [], ◌∷◌, ◌++◌, refl, sym, subst}
 use Rattle.std.specs.Prelude.{Result, Ok, Err}
 use Rattle.trace_acts.specs.declared.halt.Halt.{Halt}
 use Rattle.lan_base.specs.declared.sink.Unwritten.{Unwritten}
+use Rattle.trace_acts.proofs.Public.{each-append as append-each}
 use Rattle.twin_schedule.specs.declared.commands.TwinReplay.{TwinReplay}
 use Rattle.twin_schedule.specs.World.{World}
-use Rattle.twin_schedule.specs.Acts.{Act, and_then, Course, Goes, nothing, perform, seq, Stops}
+use Rattle.twin_schedule.specs.Acts.{Act, and_then, Course, nothing, perform, rules, seq}
 use Rattle.twin_schedule.specs.Lines.{performed, performed_all}
 use Rattle.twin_schedule.specs.Reports.{Report}
 use Rattle.twin_schedule.specs.Ends.{Moment, Ends}
 use Rattle.twin_schedule.specs.Standing.{StandsFor, Does}
 use Rattle.twin_schedule.proofs.Doing.{ends-behind, ends-early, told-none}
 
-and-assoc : (out : Course) (g h : World → Course)
-    → and_then out (λ v. and_then (g v) h) ≡ and_then (and_then out g) h
-and-assoc (Goes w) g h = refl
-and-assoc (Stops w why) g h = refl
-
 pub each-append : (xs ys : List (List ℕ)) (w : World)
     → perform (performed_all (xs ++ ys)) w ≡ perform (seq (performed_all xs) (performed_all ys)) w
-each-append [] ys w = refl
-each-append (x ∷ xs) ys w =
-    ap (λ (g : World → Course). and_then (perform (performed x) w) g) (λ i v. each-append xs ys v i)
-    ∙ and-assoc (perform (performed x) w) (λ v. perform (performed_all xs) v)
-    (λ v. perform (performed_all ys) v)
+each-append xs ys w = append-each rules performed xs ys w
 
 module _ {K : Type 0} {Took : K → Report → K → Type 0} {Broke : K → Report → K → Unwritten → Type 0}
   where

@@ -4,7 +4,6 @@ use Rattle.std.proofs.Common.{Option, Some, None, inl, inr, refl, sym, ap, ◌�
 use Rattle.std.specs.Prelude.{Result, Ok, Err, is_some, option_map}
 use Rattle.std.specs.Option.{is_none}
 use Rattle.std.specs.Result.{IsErrAnd}
-use Rattle.std.proofs.lemmas.Result.{err_from_is_err_and}
 use Rattle.lan_base.specs.declared.frame.UserFrame.{UserFrame}
 use Rattle.lan_core.specs.Ledgers.{air}
 use Rattle.lan_core.specs.declared.stop.Stop.{Stop}
@@ -41,20 +40,15 @@ use Rattle.twin_schedule.specs.inside.Comes.{Comes, IsReady}
 use Rattle.twin_schedule.specs.inside.Doing.{halt_by, Did, Happened}
 use Rattle.twin_schedule.specs.inside.Telling.{started_name, started_sci, adopted_name, sent_in}
 use Rattle.twin_schedule.specs.inside.Telling.{report_with, AreTelling}
-use Rattle.twin_schedule.proofs.Doing.{begins-self, told-none, ends-memory}
+use Rattle.trace_acts.proofs.Public.{begins-self, handed-on, taken-draws}
+use Rattle.twin_schedule.proofs.Doing.{told-none, ends-memory}
 use Rattle.twin_schedule.proofs.Told.{happening-event, names-first, names-second, scis-first}
 use Rattle.twin_schedule.proofs.Told.{senders-then, reports-are}
 
 -- ---- draws
 
 pub supply-draws : (w : World) → IsTidy w → AreDraws (supply w)
-supply-draws w tidy = record {
-  shape = λ place draw is. tidy.draws.shape (w.kept.taken + place) draw is;
-  ends = λ place none.
-      let e : w.kept.taken + (place + 1) ≡ w.kept.taken + place + 1 = omega arith in
-      ap (λ (n : ℕ). draw_at (rule_of w.kept.chosen) n) e
-      ∙ tidy.draws.ends (w.kept.taken + place) none;
-}
+supply-draws w tidy = taken-draws (rule_of w.kept.chosen) w.kept.taken tidy.draws
 
 pub same-supply : (w : World) (stage : Stage) → StandsFor w stage
     → supply_nth stage.draws ≡ supply w
@@ -377,9 +371,7 @@ module _ {K : Type 0} {Took : K → Report → K → Type 0} {Broke : K → Repo
         (e : Halt) (r : Result (Unit {0}) Halt) → Happened Took Broke given event old new (Err e)
         → IsErrAnd r (λ y. y ≡ e) → Happened Took Broke given event old new r
     happened-err given event old new e r d is =
-        let p = err_from_is_err_and r is in
-        subst (λ (r : Result (Unit {0}) Halt). Happened Took Broke given event old new r)
-        (sym (p.1 ∙ ap (λ (y : Halt). Err y) p.2)) d
+        handed-on (Happened Took Broke given) event old new e r d is
 
     -- an event that names no user frame
     pub plainly : (event : TwinEvent) (old new : Moment Stage K) (r : Result (Unit {0}) Halt)

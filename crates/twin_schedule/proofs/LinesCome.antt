@@ -31,19 +31,19 @@ use Rattle.trace_acts.specs.Choosing.{chosen_by}
 use Rattle.trace_acts.specs.Settings.{rule_of, secret_of, settings_of}
 use Rattle.trace_acts.specs.Supply.{draw_at}
 use Rattle.trace_acts.specs.Names.{is_in}
-use Rattle.trace_acts.proofs.Public.{bytes-all, chosen-draws, new-station, or-none, place-there}
+use Rattle.trace_acts.proofs.Public.{bytes-all, chosen-draws, comes-unless, new-station, not-false}
+use Rattle.trace_acts.proofs.Public.{or-none, place-there}
 use Rattle.trace_acts.proofs.Public.{unbegun-by, user-at-end, where-none}
 use Rattle.twin_schedule.specs.World.{World, Kept, pair_of, pair_by, count, names, place, is_out, has_adopted}
-use Rattle.twin_schedule.specs.Acts.{Act, happen}
+use Rattle.twin_schedule.specs.Acts.{Act, happen, rules}
 use Rattle.twin_schedule.specs.Kinds.{group_of, may_be_second, may_stand, wrong, refusal}
 use Rattle.twin_schedule.specs.Kinds.{refusal_read}
 use Rattle.twin_schedule.specs.Lines.{is_over, send, deed, deed_plain, unless_over, unless_refused, act_of}
 use Rattle.twin_schedule.specs.Lines.{deed_read, performed}
 use Rattle.twin_schedule.specs.Sound.{IsTidy}
 use Rattle.twin_schedule.specs.inside.Choosing.{with_second}
-use Rattle.twin_schedule.specs.inside.Comes.{Comes}
-use Rattle.twin_schedule.proofs.Coming.{comes-flow, comes-rounds, comes-ticks, comes-unless}
-use Rattle.twin_schedule.proofs.Coming.{not-false, tidy-same}
+use Rattle.twin_schedule.specs.inside.Comes.{asks, Comes}
+use Rattle.twin_schedule.proofs.Coming.{comes-flow, comes-rounds, comes-ticks, tidy-same}
 use Rattle.twin_schedule.proofs.Users.{AreLegal, run-more}
 
 -- ---- what a line is not refused for
@@ -195,7 +195,7 @@ plain-comes legal (lines.Flow rounds) form w tidy right = comes-flow rounds w ti
 plain-comes legal (lines.Cut from to) form w tidy right = tidy-same w _ tidy refl refl refl (λ e. e)
 plain-comes legal (lines.Mend from to) form w tidy right = tidy-same w _ tidy refl refl refl (λ e. e)
 plain-comes legal (lines.Restart name) form w tidy right =
-    comes-unless (is_out (place w name) w.run) (happen (twins.Restart (place w name))) w
+    comes-unless rules asks (is_out (place w name) w.run) (happen (twins.Restart (place w name))) w
     (λ e. (known name w right.words, tt))
 plain-comes legal (lines.Send name destination body) form w tidy right =
     let both = or-none (unknown name (names w)) _ right.words in

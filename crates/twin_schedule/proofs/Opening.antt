@@ -31,7 +31,7 @@ use Rattle.trace_acts.specs.Kinds.{first_of, is_allowed, where_}
 use Rattle.trace_acts.specs.Choosing.{chosen_by}
 use Rattle.trace_acts.specs.Settings.{rule_of, secret_of, settings_of, unkeyed}
 use Rattle.trace_acts.specs.Supply.{draw_at, supply_nth}
-use Rattle.trace_acts.specs.Places.{is_elsewhere, IsStation}
+use Rattle.trace_acts.specs.Places.{IsStation}
 use Rattle.twin_schedule.specs.declared.stage.Stage.{Stage}
 use Rattle.twin_schedule.specs.declared.commands.TwinReplay.{TwinReplay}
 use Rattle.trace_text.specs.Writing.{IsInForm}
@@ -359,23 +359,6 @@ module _ {K : Type 0} {Took : K → Report → K → Type 0} {Broke : K → Repo
         (opens-stays line form old.value.chosen old.value.second allowed opens))) outlet)
 
 -- ---- the first station
-
-pub station-later : (line : Line) → IsStation line → is_elsewhere line ≡ false
-station-later (lines.Station name sci priority) station = refl
-station-later lines.DrawsCount station = absurd station
-station-later (lines.DrawsChaCha key) station = absurd station
-station-later (lines.DrawsList values) station = absurd station
-station-later (lines.Conf conf) station = absurd station
-station-later (lines.Window window) station = absurd station
-station-later (lines.Rekey rekey) station = absurd station
-station-later (lines.Lag lag) station = absurd station
-station-later (lines.Suite suite) station = absurd station
-station-later (lines.Flag early) station = absurd station
-station-later (lines.Group cak ckn) station = absurd station
-station-later (lines.Burst name workers frames destination body) station = absurd station
-station-later lines.While station = absurd station
-station-later lines.End station = absurd station
-station-later _ station = refl
 
 -- a station may start only where a group was chosen
 pub station-keyed : (line : Line) (chosen : Choices) → IsStation line

@@ -21,6 +21,7 @@ use Rattle.cak_roll.specs.Stepping.{second_stop_of, twin_stop, happening}
 use Rattle.trace_acts.specs.declared.halt.Halt.{Halt}
 use Rattle.trace_acts.specs.declared.halt.Halt.TheVariants as halts
 use Rattle.trace_acts.specs.Halts.{halt_of}
+use Rattle.trace_acts.specs.Acts.{race}
 use Rattle.twin_schedule.specs.World.{World, pair_of}
 use Rattle.twin_schedule.specs.Acts.{Act, nothing, refuse, exceed, happen, change, seq, look, Course, Goes}
 use Rattle.twin_schedule.specs.Acts.{Stops, answered, and_then, perform, supply}
@@ -148,6 +149,7 @@ stays (happen event) w =
 stays (change f) w = tt
 stays (seq f g) w = then-stays (perform f w) (λ v. perform g v) (stays f w) (λ v. stays g v)
 stays (look f) w = stays (f w) w
+stays (race none act) w = absurd none
 
 pub never-broken : (act : Act) (w v : World) (halt : Halt) → perform act w ≡ Stops v halt
     → (halt ≡ halts.Memory) ⊎ (halt ≡ halts.WriteFault) → ⊥

@@ -29,7 +29,7 @@ use Rattle.lan_base.specs.declared.sink.Unwritten.{Unwritten}
 use Rattle.twin_schedule.specs.Reports.{AreTold, Report, report_of}
 use Rattle.twin_schedule.specs.inside.Telling.{started_name, started_sci, adopted_name, sender_in}
 use Rattle.twin_schedule.specs.inside.Telling.{senders_in, sent_in, report_with, AreTelling}
-use Rattle.twin_schedule.proofs.Doing.{told-both}
+use Rattle.trace_acts.proofs.Public.{told-both}
 
 -- ---- the event of a happening
 

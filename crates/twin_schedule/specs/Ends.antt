@@ -5,30 +5,20 @@ use Rattle.trace_acts.specs.declared.halt.Halt.{Halt}
 use Rattle.trace_acts.specs.declared.halt.Halt.TheVariants as halts
 use Rattle.lan_base.specs.declared.sink.Unwritten.{Unwritten}
 use Rattle.trace_acts.specs.Halts.{halt_of_unwritten}
+use Rattle.trace_acts.specs.Tellings as tellings
+pub use Rattle.trace_acts.specs.Tellings.{Begins, Moment, moment}
 use Rattle.twin_schedule.specs.Sound.{IsTidy}
 use Rattle.twin_schedule.specs.World.{World}
-use Rattle.twin_schedule.specs.Acts.{Course, Goes, Stops, world_of}
+use Rattle.twin_schedule.specs.Acts.{Course, Goes, Stops}
 use Rattle.twin_schedule.specs.Reports.{Report, last_reports, reports, AreTold}
 
--- a value that performs acts, and what is told, at a moment of a call
-pub record Moment (R K : Type 0) : Type 0 where
-  pub value : R
-  pub outlet : K
-
-abbrev pub moment : {R K : Type 0} → R → K → Moment R K
-moment value outlet = record { value = value; outlet = outlet }
-
 -- a value stands for a tidy world
-pub record IsReached {R : Type 0} (Stands : World → R → Type 0) (w : World) (now : R) : Type 0 where
-  pub stands : Stands w now
-  pub tidy : IsTidy w
+abbrev pub IsReached : {R : Type 0} → (World → R → Type 0) → World → R → Type 0
+IsReached Stands w now = tellings.IsReached IsTidy Stands w now
 
 -- what events showed from one world up to another was told
-pub record WasTold {K : Type 0} (Took : K → Report → K → Type 0) (w v : World) (old new : K) :
-    Type 0 where
-  pub told : List Report
-  pub since : reports v.run ≡ reports w.run ++ told
-  pub by_one : AreTold Took old told new
+abbrev pub WasTold : {K : Type 0} → (K → Report → K → Type 0) → World → World → K → K → Type 0
+WasTold Took w v old new = tellings.WasTold reports Took w v old new
 
 -- from one world up to another all was told up to a report of the last event, at which the recorder
 -- broke
@@ -55,14 +45,9 @@ pub record IsStopped {K : Type 0} (Took : K → Report → K → Type 0) (w : Wo
   pub tidy : IsTidy world
   pub told : WasTold Took w world old new
 
--- reports begin with others
-pub record Begins (front all : List Report) : Type 0 where
-  pub more : List Report
-  pub parts : front ++ more ≡ all
-
 -- all that a course reports, also before an act
 abbrev pub reported : Course → List Report
-reported out = reports (world_of out).run
+reported out = tellings.reported reports out
 
 -- on the way to this course a tidy world was reached, where memory was wanting, or the recorder broke
 pub record WasCut {K : Type 0} (Took : K → Report → K → Type 0)

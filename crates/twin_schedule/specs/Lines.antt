@@ -1,7 +1,7 @@
 -- What each line of a trace of two groups performs (this profile's own rule).
 use Rattle.std.specs.Prelude.{ℕ, ◌+◌, ◌-◌, ◌==◌, ◌||◌, Bool, true, not, List, [], ◌∷◌, ◌++◌, length}
-use Rattle.std.specs.Prelude.{if◌then◌else◌, min, nat_lt}
-use Rattle.std.specs.Prelude.{Option, Some, None, Result, Ok}
+use Rattle.std.specs.Prelude.{if◌then◌else◌, nat_lt}
+use Rattle.std.specs.Prelude.{Option, Some, Result, Ok}
 use Rattle.lan_base.specs.declared.frame.UserFrame.{UserFrame}
 use Rattle.lan_core.specs.declared.stop.Which.TheVariants.{Frames}
 use Rattle.cak_roll.specs.declared.event.GroupNumber.{GroupNumber}
@@ -14,14 +14,15 @@ use Rattle.trace_text.specs.declared.line.Line.TheVariants as lines
 use Rattle.trace_text.specs.declared.twin.line.RollLine.{RollLine}
 use Rattle.trace_text.specs.declared.twin.line.RollLine.TheVariants.{Plain, Group2, Adopt, Leave}
 use Rattle.trace_text.specs.twin.Reading.{roll_line_in}
-use Rattle.trace_acts.specs.declared.halt.Kind.{Kind}
 use Rattle.trace_acts.specs.declared.choices.Choices.{Choices}
 use Rattle.trace_acts.specs.Settings.{secret_of}
+pub use Rattle.trace_acts.specs.Settings.{most_users}
 use Rattle.trace_acts.specs.Links.{is_cut, with_link, without_link}
+pub use Rattle.trace_acts.specs.Acts.{line_after, unless_refused}
 use Rattle.trace_acts.specs.Choosing.{chosen_by}
 use Rattle.twin_schedule.specs.World.{World, Kept, count, place, joined, is_out, frames, sender}
 use Rattle.twin_schedule.specs.World.{spread_in, has_spread}
-use Rattle.twin_schedule.specs.Acts.{Act, nothing, refuse, exceed, happen, change, seq, look, each, span}
+use Rattle.twin_schedule.specs.Acts.{Act, nothing, exceed, happen, change, seq, look, each, span}
 use Rattle.twin_schedule.specs.Acts.{times, unless}
 use Rattle.twin_schedule.specs.Kinds.{group_of, refusal, first_refusal}
 
@@ -100,10 +101,6 @@ add_user frame = change (λ kept. record kept { users = kept.users ++ frame ∷ 
 abbrev pub send : ℕ → UserFrame → Act
 send s frame = seq (add_user frame) (look (λ w. happen (twins.Send s (length w.kept.users))))
 
--- the greatest count of user frames that lines name: each has a number
-abbrev pub most_users : ℕ
-most_users = 4294967294
-
 -- whether one more is more than have numbers
 abbrev pub is_over : World → Bool
 is_over w = nat_lt most_users (length w.kept.users + 1)
@@ -137,11 +134,6 @@ deed (Group2 cak ckn) w = take_second cak ckn
 deed (Adopt name) w = happen (twins.Adopt (place w name))
 deed (Leave group name) w = happen (twins.Leave (place w name) (group_of group))
 
--- a refused line performs nothing
-abbrev pub unless_refused : Option Kind → Act → Act
-unless_refused None act = act
-unless_refused (Some kind) act = refuse kind
-
 -- what a line performs
 abbrev pub act_of : RollLine → Act
 act_of line = look (λ w. unless_refused (refusal line w) (deed line w))
@@ -163,10 +155,6 @@ numbered number line = seq (begin_line number) (act_of line)
 abbrev pub deed_read : Result (Option RollLine) TextFault → World → Act
 deed_read (Ok (Some line)) w = deed line w
 deed_read _ w = nothing
-
--- the number of the next line: all lines behind the 2^32 - 1st have its number
-abbrev pub line_after : ℕ → ℕ
-line_after line = min (line + 1) 4294967295
 
 -- what a text without its line ending performs, as the next line
 abbrev pub performed : List ℕ → Act

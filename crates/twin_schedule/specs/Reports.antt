@@ -1,10 +1,11 @@
 -- What is told of what events show.
-use Rattle.std.specs.Prelude.{◌≡◌, ℕ, List, [], ◌∷◌, ◌++◌, map}
+use Rattle.std.specs.Prelude.{ℕ, List, [], ◌∷◌, ◌++◌, map}
 use Rattle.lan_core.specs.declared.fact.Fact.{Fact}
 use Rattle.cak_roll.specs.declared.event.GroupNumber.{GroupNumber}
 use Rattle.cak_roll.specs.declared.told.Told.{Told}
 use Rattle.cak_roll.specs.Twin.{Twin}
 use Rattle.cak_roll.specs.Answers.{told_in}
+pub use Rattle.trace_acts.specs.Tellings.{AreTold}
 use Rattle.twin_schedule.specs.World.{names_in}
 
 -- what is told of an event of a group: the group, the names that its stations have by then, in the
@@ -27,9 +28,3 @@ last_reports (x ∷ t) = map (report_of (x ∷ t)) (told_in x)
 abbrev pub reports : Twin → List Report
 reports [] = []
 reports (x ∷ t) = reports t ++ last_reports (x ∷ t)
-
--- reports were told, one after the other
-abbrev pub AreTold : {K : Type 0} → (K → Report → K → Type 0) → K → List Report → K → Type 0
-AreTold Took old [] new = old ≡ new
-AreTold {K = K} Took old (report ∷ later) new =
-    (now : K) × Took old report now × AreTold Took now later new

@@ -3,6 +3,7 @@ use Rattle.std.specs.Prelude.{◌≡◌, true, Option, Some, None, Result}
 use Rattle.lan_base.specs.Ranges.{IsCkn}
 use Rattle.trace_acts.specs.declared.choices.Keyed.{Keyed}
 use Rattle.trace_acts.specs.declared.halt.Halt.{Halt}
+pub use Rattle.trace_acts.specs.Settings.{IsNamed}
 use Rattle.lan_base.specs.declared.sink.Unwritten.{Unwritten}
 use Rattle.twin_schedule.specs.declared.stage.Stage.{Stage}
 use Rattle.twin_schedule.specs.declared.commands.TwinReplay.{TwinReplay}
@@ -12,11 +13,6 @@ use Rattle.twin_schedule.specs.Kinds.{may_be_second}
 use Rattle.twin_schedule.specs.Reports.{Report}
 use Rattle.twin_schedule.specs.Ends.{Moment, IsReached, Ends}
 use Rattle.twin_schedule.specs.Stages.{StandsFor as StageStandsFor}
-
--- a group that was chosen has a name that is what it may be
-abbrev pub IsNamed : Option Keyed → Type 0
-IsNamed None = Unit {0}
-IsNamed (Some group) = IsCkn group.ckn
 
 -- so has a second group, and it may come behind the first one
 abbrev pub IsSecond : Option Keyed → Option Keyed → Type 0

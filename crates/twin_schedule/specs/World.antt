@@ -11,6 +11,7 @@ use Rattle.cak_roll.specs.declared.event.GroupNumber.{GroupNumber}
 use Rattle.cak_roll.specs.declared.event.GroupNumber.TheVariants.{First, Second}
 use Rattle.cak_roll.specs.Twin.{Pair, Twin, of_group, run_of, adopters, takes_part}
 use Rattle.cak_roll.specs.Answers.{another}
+use Rattle.trace_acts.specs.Acts as acts
 use Rattle.trace_acts.specs.declared.choices.Choices.{Choices}
 use Rattle.trace_acts.specs.declared.choices.Keyed.{Keyed}
 use Rattle.trace_acts.specs.declared.links.Link.{Link}
@@ -32,9 +33,8 @@ pub record Kept : Type 0 where
   pub first_spread : ℕ
   pub second_spread : ℕ
 
-pub record World : Type 0 where
-  pub run : Twin
-  pub kept : Kept
+abbrev pub World : Type 0
+World = acts.World Twin Kept
 
 -- no line was performed
 abbrev pub nothing_kept : Kept

@@ -14,7 +14,7 @@ ghost use Rattle.twin_schedule.specs.Stages.{StandsFor};
 
 use crate::stage::{Stage, group_of};
 use lan_base::{Name, Octets, Sci};
-use trace_acts::{Keyed, Kind, is_elsewhere};
+use trace_acts::{Keyed, Kind, is_elsewhere, is_named, unknown};
 use trace_text::Line;
 use trace_text::twin::RollLine;
 
@@ -90,7 +90,7 @@ impl Stage {
             ≡ or_else (where_ (is_in name.now self.now.first.names.items) kinds.NameTaken)
             (where_ (is_in sci.now.0 (map (λ sci. sci.0) self.now.scis.items)) kinds.SciTaken) }
     {
-        if self.is_named(name) {
+        if is_named(&self.first.names, name) {
             Some(Kind::NameTaken)
         } else if self.has_sci(sci) {
             Some(Kind::SciTaken)
@@ -103,21 +103,7 @@ impl Stage {
     fn unknown(&self, name: &Name) -> Option<Kind>
         ensures { result ≡ unknown name.now self.now.first.names.items }
     {
-        if self.is_named(name) {
-            None
-        } else {
-            Some(Kind::NameUnknown)
-        }
-    }
-
-    /// Whether a station has this name.
-    fn is_named(&self, name: &Name) -> bool
-        ensures { result ≡ is_in name.now self.now.first.names.items }
-    {
-        self.first
-            .names
-            .iter()
-            .any(|other| name.octets() == other.octets())
+        unknown(&self.first.names, name)
     }
 
     /// Whether a station has this SCI.

@@ -1,5 +1,5 @@
 -- What is kept and told of an event's facts.
-use Rattle.std.specs.Prelude.{◌≡◌, ℕ, if◌then◌else◌, List, [], ◌∷◌, ◌++◌, Result, Ok, Err}
+use Rattle.std.specs.Prelude.{ℕ, if◌then◌else◌, List, [], ◌∷◌, ◌++◌, Result, Ok, Err}
 use Rattle.std.specs.Prelude.{slice_get, option_to_list}
 use Rattle.std.specs.List.{flat_map}
 use Rattle.lan_base.specs.declared.address.Sci.{Sci}
@@ -11,6 +11,7 @@ use Rattle.cak_roll.specs.declared.event.TwinEvent.TheVariants as twins
 use Rattle.cak_roll.specs.declared.told.Told.{Told}
 use Rattle.cak_roll.specs.Twin.{of_group, same_group}
 use Rattle.lan_base.specs.declared.sink.Unwritten.{Unwritten}
+use Rattle.trace_acts.specs.Tellings.{WereToldUpTo}
 use Rattle.twin_schedule.specs.Reports.{Report, AreTold}
 
 -- ---- who joins
@@ -51,18 +52,6 @@ sent_in g (told ∷ later) =
 abbrev pub report_with : List (List ℕ) → List (List ℕ) → Told → Report
 report_with first second told =
     record { group = told.group; names = of_group told.group first second; facts = told.facts }
-
--- reports were told up to one, at which the recorder broke
-pub record WereToldUpTo {K : Type 0} (Took : K → Report → K → Type 0)
-    (Broke : K → Report → K → Unwritten → Type 0) (all : List Report) (old new : K) (why : Unwritten) :
-    Type 0 where
-  pub told : List Report
-  pub last : Report
-  pub behind : List Report
-  pub parts : all ≡ told ++ last ∷ behind
-  pub before : K
-  pub by_one : AreTold Took old told before
-  pub breaks : Broke before last new why
 
 -- all reports were told, or those up to one, at which the recorder broke
 abbrev pub AreTelling : {K : Type 0} → (K → Report → K → Type 0)

@@ -4,7 +4,8 @@ use Rattle.twin_schedule.specs.World.{waiting}
 use Rattle.twin_schedule.specs.Stages.{StandsFor as StageStandsFor}
 use Rattle.twin_schedule.specs.inside.Choosing.{begun_in}
 use Rattle.twin_schedule.specs.Standing.{MayOpen}
-use Rattle.twin_schedule.proofs.Opening.{opening-does, station-later, unopened-does}
+use Rattle.trace_acts.proofs.Public.{station-later}
+use Rattle.twin_schedule.proofs.Opening.{opening-does, unopened-does}
 use Rattle.twin_schedule.proofs.commands.TwinReplay.open.Goals as goal
 
 pub perform_plain-outcome-requires-clause-later : goal.perform_plain-outcome-requires-clause-later

@@ -1,10 +1,10 @@
 use Rattle.std.proofs.Common.{arith}
 use Rattle.twin_schedule.specs.Lines.{flow_round}
-use Rattle.twin_schedule.proofs.Doing.{span-end, span-exit, span-start, span-step}
+use Rattle.twin_schedule.proofs.Doing.{in-turn, span-end, span-exit, span-start, span-step}
 use Rattle.twin_schedule.proofs.stage.Stage.flow.Goals as goal
 
 pub loop-init : goal.loop-init
-loop-init g c = span-start (λ _. flow_round) c.args.count _
+loop-init g c = span-start in-turn (λ _. flow_round) c.args.count _
 
 pub returns-in_err-flow_round : goal.returns-in_err-flow_round
 returns-in_err-flow_round g c =

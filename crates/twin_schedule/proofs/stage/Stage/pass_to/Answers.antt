@@ -1,7 +1,10 @@
 use Rattle.std.proofs.Common.{arith}
 use Rattle.twin_schedule.specs.Lines.{pass}
-use Rattle.twin_schedule.proofs.Doing.{each-end, each-err, each-step}
+use Rattle.twin_schedule.proofs.Doing.{each-end, each-err, each-step, in-turn, leads-start}
 use Rattle.twin_schedule.proofs.stage.Stage.pass_to.Goals as goal
+
+pub loop-station-init : goal.loop-station-init
+loop-station-init g c = leads-start in-turn _ _
 
 pub returns-in_err-pass : goal.returns-in_err-pass
 returns-in_err-pass g c =

@@ -1,10 +1,10 @@
 use Rattle.std.proofs.Common.{arith}
 use Rattle.twin_schedule.specs.Lines.{tick_both}
-use Rattle.twin_schedule.proofs.Doing.{span-end, span-exit, span-start, span-step}
+use Rattle.twin_schedule.proofs.Doing.{in-turn, span-end, span-exit, span-start, span-step}
 use Rattle.twin_schedule.proofs.stage.Stage.ticks.Goals as goal
 
 pub loop-init : goal.loop-init
-loop-init g c = span-start (λ _. tick_both c.args.station) c.args.count _
+loop-init g c = span-start in-turn (λ _. tick_both c.args.station) c.args.count _
 
 pub returns-in_err-tick_both : goal.returns-in_err-tick_both
 returns-in_err-tick_both g c =
