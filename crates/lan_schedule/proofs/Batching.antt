@@ -28,12 +28,11 @@ use Rattle.lan_schedule.specs.Acts.{Act, happen, perform, seq, shown, span, worl
 use Rattle.lan_schedule.specs.Answers.{answer}
 use Rattle.lan_schedule.specs.Sound.{IsTidy}
 use Rattle.lan_schedule.specs.Reports.{Report}
-use Rattle.lan_schedule.specs.Stages.{Counts}
 use Rattle.lan_schedule.specs.Ends.{Moment}
 use Rattle.lan_schedule.specs.inside.Batching.{IsData, AreData, AreChecked}
 use Rattle.lan_schedule.specs.inside.Batching.{first_answer, rest_answers}
 use Rattle.lan_schedule.specs.inside.Comes.{Comes, IsGoing}
-use Rattle.lan_schedule.specs.inside.Recording.{StandsSince, LeavesAt}
+use Rattle.lan_schedule.specs.inside.Recording.{stages_since}
 use Rattle.lan_schedule.specs.inside.Staged.{Did, DidWhere}
 use Rattle.lan_schedule.proofs.Doing.{both-chances, going, span-next, span-done, ends-behind, ends-early}
 use Rattle.lan_schedule.proofs.Doing.{memory-does, nothing-does, handed-on}
@@ -224,7 +223,7 @@ module _ {K : Type 0} {Took : K → Report → K → Type 0} {Broke : K → Repo
                     (behind-one w (first + i) s mid (answer w (Deliver (first + i) s)) law are)
                     done.2.tidy in
                     let one : first + i + 1 ≡ first + (i + 1) = omega arith in
-                    ends-behind Took Broke (StandsSince mark) (LeavesAt mark) Counts (seq f g) g w done.0
+                    ends-behind Took Broke (stages_since mark) (seq f g) g w done.0
                     later now.outlet next.outlet new r done.3 done.5 (as-left f g w done.0 done.1)
                     (e.ends mark done.0 later done.4 done.2
                     (subst (λ (k : ℕ). AreChecked done.0.run k s (rest_answers mid)) one more)
@@ -252,7 +251,7 @@ module _ {K : Type 0} {Took : K → Report → K → Type 0} {Broke : K → Repo
         (sym (span-next (reaching first s) i n lt)) (record {
           chances = d.chances;
           ends = λ mark w later left reached holds comes.
-              ends-early Took Broke (StandsSince mark) (LeavesAt mark) Counts f g w later
+              ends-early Took Broke (stages_since mark) f g w later
               now.outlet next halt
               (d.ends mark w later left reached
               (first-is w.run (first + i) s mid

@@ -13,7 +13,7 @@ use Rattle.lan_schedule.specs.Acts.{Stops, perform}
 use Rattle.lan_schedule.specs.Lines.{at_line, close, close_at, line_after, performed_all, performed_whole}
 use Rattle.lan_schedule.specs.Reports.{Report}
 use Rattle.lan_schedule.specs.Ends.{Moment, IsReached, Ends}
-use Rattle.lan_schedule.specs.Standing.{StandsFor, Counts, Does, Closes}
+use Rattle.lan_schedule.specs.Standing.{StandsFor, Does, Closes, replays}
 use Rattle.lan_schedule.specs.inside.Phased.{is_inside}
 use Rattle.lan_schedule.proofs.Doing.{told-none}
 use Rattle.lan_schedule.proofs.LinesCome.{tidy-same}
@@ -38,7 +38,7 @@ module _ {K : Type 0} {Took : K → Report → K → Type 0} {Broke : K → Repo
   where
     closed-early : (w : World) (later : List Chance) (now : Moment Replay K) (halt : Halt)
         → w.kept.chances ≡ later → IsReached StandsFor w now.value → Closes w (Err halt)
-        → Ends StandsFor (λ halt. Counts) Counts Took Broke w later close now.outlet now (Err halt)
+        → Ends replays Took Broke w later close now.outlet now (Err halt)
     closed-early w later now halt left reached stops = inl (record {
       world = at_line (line_after w.kept.line) w;
       stops = stops;

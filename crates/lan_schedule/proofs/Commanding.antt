@@ -17,8 +17,8 @@ use Rattle.lan_schedule.specs.Ends.{Moment, Ends}
 use Rattle.lan_schedule.specs.inside.Phased.{refusal_apart, act_apart}
 use Rattle.lan_schedule.specs.inside.Comes.{Comes}
 use Rattle.lan_schedule.specs.inside.Staged.{Did}
-use Rattle.lan_schedule.specs.Stages.{StandsFor, Counts}
-use Rattle.lan_schedule.specs.inside.Recording.{StandsSince, LeavesAt}
+use Rattle.lan_schedule.specs.Stages.{StandsFor}
+use Rattle.lan_schedule.specs.inside.Recording.{stages_since}
 use Rattle.lan_schedule.proofs.Doing.{told-none}
 use Rattle.lan_schedule.proofs.Happening.{looked-none}
 use Rattle.lan_schedule.proofs.Recorded.{leaves-so, seats-kept}
@@ -55,7 +55,7 @@ module _ {K : Type 0} {Took : K → Report → K → Type 0} {Broke : K → Repo
       ends = λ mark w later left reached comes.
           let none = is w reached.stands.stands in
           subst (λ (o : Option Kind). Comes (unless_refused o (deed line w)) w
-          → Ends (StandsSince mark) (LeavesAt mark) Counts Took Broke w later (unless_refused o (deed line w))
+          → Ends (stages_since mark) Took Broke w later (unless_refused o (deed line w))
           old.outlet new r) (sym none)
           (λ comes_deed. d.ends mark w later left reached comes_deed) comes;
       seats = d.seats;

@@ -19,11 +19,11 @@ use Rattle.trace_text.specs.declared.line.Line.TheVariants as lines
 use Rattle.lan_schedule.specs.Lines.{controlled, deed, unless_refused}
 use Rattle.lan_schedule.specs.Reports.{Report}
 use Rattle.lan_schedule.specs.Ends.{Moment, Ends}
-use Rattle.lan_schedule.specs.Stages.{StandsFor, Counts}
+use Rattle.lan_schedule.specs.Stages.{StandsFor}
 use Rattle.lan_schedule.specs.inside.Comes.{Comes}
-use Rattle.lan_schedule.specs.inside.Recording.{StandsSince, LeavesAt}
+use Rattle.lan_schedule.specs.inside.Recording.{stages_since}
 use Rattle.lan_schedule.specs.inside.Staged.{Did, Changed}
-use Rattle.lan_schedule.proofs.Doing.{Leads, leads-start, leads-step, leads-err, leads-end, handed-on}
+use Rattle.lan_schedule.proofs.Doing.{in-turn, Leads, leads-start, leads-step, leads-err, leads-end, handed-on}
 use Rattle.lan_schedule.proofs.Doing.{change-does, told-none}
 use Rattle.lan_schedule.proofs.Happening.{looked-none}
 use Rattle.lan_schedule.proofs.Recorded.{leaves-so, seats-kept}
@@ -132,7 +132,7 @@ module _ {K : Type 0} {Took : K → Report → K → Type 0} {Broke : K → Repo
       ends = λ mark w later left reached comes.
           let none = sym (frame-of line w old.value reached.stands.stands) ∙ is in
           subst (λ (o : Option Kind). Comes (unless_refused o (deed line w)) w
-          → Ends (StandsSince mark) (LeavesAt mark) Counts Took Broke w later
+          → Ends (stages_since mark) Took Broke w later
           (unless_refused o (deed line w)) old.outlet new r) (sym none)
           (λ comes_deed. d.ends mark w later left reached comes_deed) comes;
       seats = d.seats;
@@ -144,7 +144,7 @@ module _ {K : Type 0} {Took : K → Report → K → Type 0} {Broke : K → Repo
         → mid.outlet ≡ old.outlet
         → Leads Took Broke (controlled kept) old (look (deed_unless kept.line)) mid
     line-leads kept old mid same line users words cuts outlet =
-        leads-step _ _ _ _ _ _ (leads-start (controlled kept) old)
+        leads-step _ _ _ _ _ _ (leads-start in-turn (controlled kept) old)
         (change-does _ old mid (λ k. (refl, refl))
         (line-changed kept.number old.value mid.value same line users words cuts) outlet)
 

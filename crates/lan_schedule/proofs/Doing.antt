@@ -1,10 +1,9 @@
 -- Acts are done one after the other.
-use Rattle.std.proofs.Common.{◌≡◌, ℕ, zero, suc, ◌+◌, ◌-◌, ◌<◌, ◌≤◌, List, [], ◌∷◌, ◌++◌, length}
-use Rattle.std.proofs.Common.{drop, get_or, drop-cons, inl, inr, refl, sym, ap, ◌∙◌, subst}
-use Rattle.std.proofs.Common.{append_assoc, append-nil, add-one, arith}
+use Rattle.std.proofs.Common.{◌≡◌, List, [], ◌∷◌, ◌++◌}
+use Rattle.std.proofs.Common.{inl, inr, refl, sym, ap, ◌∙◌, subst}
+use Rattle.std.proofs.Common.{append_assoc, append-nil, arith}
 use Rattle.std.specs.Prelude.{◌⊎◌, Result, Ok, Err, Option, Some, None}
 use Rattle.std.specs.Result.{IsErrAnd}
-use Rattle.std.proofs.lemmas.Result.{err_from_is_err_and}
 use Rattle.lan_base.specs.declared.frame.UserFrame.{UserFrame}
 use Rattle.association_slots.specs.Views.{ControlAt}
 use Rattle.lan_core.specs.declared.settings.Settings.{Settings}
@@ -16,15 +15,20 @@ use Rattle.lan_schedule.specs.declared.stage.Stage.{Stage}
 use Rattle.lan_schedule.specs.Races.{Chance}
 use Rattle.lan_schedule.specs.World.{World, Kept, is_racing, settings}
 use Rattle.lan_schedule.specs.Acts.{Act, nothing, change, seq, look}
-use Rattle.lan_schedule.specs.Acts.{perform, BeginsAt, Course, Goes, and_then, each, span}
-use Rattle.lan_schedule.specs.Reports.{Report, reports, AreTold}
-use Rattle.lan_schedule.specs.Ends.{Moment, moment, WasTold, WasToldTo, WasBroken, Ends}
-use Rattle.lan_schedule.specs.inside.Comes.{Comes, IsGoing}
+use Rattle.lan_schedule.specs.Acts.{perform, BeginsAt, Course, Goes, and_then}
+use Rattle.lan_schedule.specs.Reports.{Report, reports}
+use Rattle.lan_schedule.specs.Ends.{Moment, moment, WasTold, WasToldTo, WasBroken, Ends, Standing}
+use Rattle.lan_schedule.specs.inside.Comes.{Comes}
 use Rattle.lan_schedule.specs.Sound.{IsTidy}
-use Rattle.lan_schedule.specs.Stages.{StandsFor, Counts}
-use Rattle.lan_schedule.specs.inside.Recording.{Mark, StandsSince, LeavesAt, HasRecorded, IsRecorded}
+use Rattle.lan_schedule.specs.Stages.{StandsFor}
+use Rattle.lan_schedule.specs.inside.Recording.{Mark, StandsSince, HasRecorded, IsRecorded, stages_since}
 use Rattle.lan_schedule.specs.inside.Recording.{KeepSeats, steps_of}
 use Rattle.lan_schedule.specs.inside.Staged.{Did, Changed}
+use Rattle.trace_acts.proofs.Public.{told-both, told-then, handed-on as hand-on}
+use Rattle.trace_acts.proofs.Public.{IsInTurn, Leads as LeadsBy}
+pub use Rattle.trace_acts.proofs.Public.{each-end, each-err, each-step, going, leads-end, leads-err}
+pub use Rattle.trace_acts.proofs.Public.{leads-start, leads-step, span-done, span-end, span-exit}
+pub use Rattle.trace_acts.proofs.Public.{span-next, span-start, span-step, told-none}
 use Rattle.lan_schedule.proofs.OnWay.{IsAs, as-left, begins-start, way-start}
 use Rattle.lan_schedule.proofs.Recorded.{seats-kept, seats-then}
 
@@ -32,54 +36,7 @@ use Rattle.lan_schedule.proofs.Recorded.{seats-kept, seats-then}
 pub both-chances : (all a b later : List Chance) → all ≡ (a ++ b) ++ later → all ≡ a ++ (b ++ later)
 both-chances all a b later is = is ∙ append_assoc a b later
 
-pub going : (out : Course) (w : World) (P : World → Type 0) → out ≡ Goes w → IsGoing out P → P w
-going out w P e h = subst (λ (o : Course). IsGoing o P) e h
-
--- a span begins with its first
-pub span-next : (f : ℕ → Act) (i n : ℕ) → i < n
-    → span f i (n - i) ≡ seq (f i) (span f (i + 1) (n - (i + 1)))
-span-next f i n lt =
-    let e : n - i ≡ suc (n - (i + 1)) = omega arith in
-    ap (λ (k : ℕ). span f i k) e ∙ ap (λ (k : ℕ). seq (f i) (span f k (n - (i + 1))))
-    (sym (add-one i))
-
-pub span-done : (f : ℕ → Act) (i n : ℕ) → n ≤ i → span f i (n - i) ≡ nothing
-span-done f i n le = let e : n - i ≡ 0 = omega arith in ap (λ (k : ℕ). span f i k) e
-
-drop-past : (xs : List ℕ) (i : ℕ) → length xs ≤ i → drop i xs ≡ []
-drop-past [] zero le = refl
-drop-past [] (suc i) le = refl
-drop-past (x ∷ xs) zero le = absurd (omega arith)
-drop-past (x ∷ xs) (suc i) le = drop-past xs i (omega arith)
-
-drop-one : (xs : List ℕ) (i : ℕ) → i < length xs
-    → drop i xs ≡ get_or xs i 0 ∷ drop (i + 1) xs
-drop-one xs i lt = rw (add-one, drop-cons xs i 0) refl
-
 -- ---- what was told
-
-module _ {K : Type 0} (Took : K → Report → K → Type 0) where
-  pub told-both : (a b c : K) (xs ys : List Report) → AreTold Took a xs b → AreTold Took b ys c
-      → AreTold Took a (xs ++ ys) c
-  told-both a b c [] ys f g = subst (λ (k : K). AreTold Took k ys c) (sym f) g
-  told-both a b c (x ∷ xs) ys f g = (f.0, f.1, told-both f.0 b c xs ys f.2 g)
-
-module _ {K : Type 0} {Took : K → Report → K → Type 0} where
-  pub told-none : (w v : World) (a b : K) → v.run ≡ w.run → b ≡ a → WasTold Took w v a b
-  told-none w v a b run same = record {
-    told = [];
-    since = ap reports run ∙ sym (append-nil (reports w.run));
-    by_one = sym same;
-  }
-
-  pub told-then : (w v u : World) (a b c : K) → WasTold Took w v a b → WasTold Took v u b c
-      → WasTold Took w u a c
-  told-then w v u a b c f g = record {
-    told = f.told ++ g.told;
-    since = g.since ∙ ap (λ (l : List Report). l ++ g.told) f.since
-        ∙ append_assoc (reports w.run) f.told g.told;
-    by_one = told-both Took a b c f.told g.told f.by_one g.by_one;
-  }
 
 module _ {K : Type 0} {Took : K → Report → K → Type 0} where
   -- nothing more was told
@@ -145,16 +102,15 @@ module _ {K : Type 0} {Took : K → Report → K → Type 0} {Broke : K → Repo
 module _ {K : Type 0} (Took : K → Report → K → Type 0) (Broke : K → Report → K → Unwritten → Type 0)
   where
     -- a call that begins where another ended
-    pub ends-behind : {R : Type 0} (Stands : World → R → Type 0) (Leaves : Halt → World → R → Type 0)
-        (Tallies : World → R → Type 0) (f g : Act) (w v : World)
+    pub ends-behind : {R : Type 0} (standing : Standing R) (f g : Act) (w v : World)
         (later : List Chance) (a b : K) (new : Moment R K)
         (r : Result (Unit {0}) Halt) → WasTold Took w v a b
         → is_racing v.kept.phase ≡ is_racing w.kept.phase → IsAs f w g v
-        → Ends Stands Leaves Tallies Took Broke v later g b new r
-        → Ends Stands Leaves Tallies Took Broke w later f a new r
-    ends-behind Stands Leaves Tallies f g w v later a b new (Ok done) told same alike h =
+        → Ends standing Took Broke v later g b new r
+        → Ends standing Took Broke w later f a new r
+    ends-behind standing f g w v later a b new (Ok done) told same alike h =
         (h.0, alike.0 ∙ h.1, h.2, told-then w v h.0 a b new.outlet told h.3, h.4, h.5 ∙ same)
-    ends-behind Stands Leaves Tallies f g w v later a b new (Err halt) told same alike (inl h) =
+    ends-behind standing f g w v later a b new (Err halt) told same alike (inl h) =
         inl (record {
           world = h.world;
           stops = alike.0 ∙ h.stops;
@@ -164,7 +120,7 @@ module _ {K : Type 0} (Took : K → Report → K → Type 0) (Broke : K → Repo
           left = h.left;
           same = h.same ∙ same;
         })
-    ends-behind Stands Leaves Tallies f g w v later a b new (Err halt) told same alike (inr h) =
+    ends-behind standing f g w v later a b new (Err halt) told same alike (inr h) =
         inr (record {
           world = h.world;
           tidy = h.tidy;
@@ -175,12 +131,11 @@ module _ {K : Type 0} (Took : K → Report → K → Type 0) (Broke : K → Repo
         })
 
     -- the first act ended early
-    pub ends-early : {R : Type 0} (Stands : World → R → Type 0) (Leaves : Halt → World → R → Type 0)
-        (Tallies : World → R → Type 0) (f g : Act) (w : World)
+    pub ends-early : {R : Type 0} (standing : Standing R) (f g : Act) (w : World)
         (later : List Chance) (a : K) (new : Moment R K) (halt : Halt)
-        → Ends Stands Leaves Tallies Took Broke w later f a new (Err halt)
-        → Ends Stands Leaves Tallies Took Broke w later (seq f g) a new (Err halt)
-    ends-early Stands Leaves Tallies f g w later a new halt (inl h) = inl (record {
+        → Ends standing Took Broke w later f a new (Err halt)
+        → Ends standing Took Broke w later (seq f g) a new (Err halt)
+    ends-early standing f g w later a new halt (inl h) = inl (record {
       world = h.world;
       stops = ap (λ (o : Course). and_then o (λ v. perform g v)) h.stops;
       tidy = h.tidy;
@@ -189,7 +144,7 @@ module _ {K : Type 0} (Took : K → Report → K → Type 0) (Broke : K → Repo
       left = h.left;
       same = h.same;
     })
-    ends-early Stands Leaves Tallies f g w later a new halt (inr h) = inr (record {
+    ends-early standing f g w later a new halt (inr h) = inr (record {
       world = h.world;
       tidy = h.tidy;
       counts = h.counts;
@@ -200,16 +155,14 @@ module _ {K : Type 0} (Took : K → Report → K → Type 0) (Broke : K → Repo
     })
 
     -- what one value did, another did in which it stands
-    pub ends-seen : {R S : Type 0} (Stands : World → R → Type 0) (Leaves : Halt → World → R → Type 0)
-        (Tallies : World → R → Type 0) (Sees : World → S → Type 0)
-        (Shows : Halt → World → S → Type 0) (Tells : World → S → Type 0) (w : World) (later : List Chance) (act : Act) (a k : K)
+    pub ends-seen : {R S : Type 0} (standing : Standing R) (other : Standing S) (w : World) (later : List Chance) (act : Act) (a k : K)
         (x : R) (y : S) (r : Result (Unit {0}) Halt)
-        → ((v : World) → perform act w ≡ Goes v → r ≡ Ok tt → Stands v x → Sees v y)
-        → ((v : World) (halt : Halt) → Leaves halt v x → Shows halt v y)
-        → ((v : World) → Tallies v x → Tells v y)
-        → Ends Stands Leaves Tallies Took Broke w later act a (moment x k) r
-        → Ends Sees Shows Tells Took Broke w later act a (moment y k) r
-    ends-seen Stands Leaves Tallies Sees Shows Tells w later act a k x y (Ok done) sees shows tells h = (
+        → ((v : World) → perform act w ≡ Goes v → r ≡ Ok tt → standing.Stands v x → other.Stands v y)
+        → ((v : World) (halt : Halt) → standing.Leaves halt v x → other.Leaves halt v y)
+        → ((v : World) → standing.Counts v x → other.Counts v y)
+        → Ends standing Took Broke w later act a (moment x k) r
+        → Ends other Took Broke w later act a (moment y k) r
+    ends-seen standing other w later act a k x y (Ok done) sees shows tells h = (
       h.0,
       h.1,
       record { stands = sees h.0 h.1 refl h.2.stands; tidy = h.2.tidy },
@@ -217,7 +170,7 @@ module _ {K : Type 0} (Took : K → Report → K → Type 0) (Broke : K → Repo
       h.4,
       h.5,
     )
-    ends-seen Stands Leaves Tallies Sees Shows Tells w later act a k x y (Err halt) sees shows tells (inl h) =
+    ends-seen standing other w later act a k x y (Err halt) sees shows tells (inl h) =
         inl (record {
           world = h.world;
           stops = h.stops;
@@ -227,7 +180,7 @@ module _ {K : Type 0} (Took : K → Report → K → Type 0) (Broke : K → Repo
           left = h.left;
           same = h.same;
         })
-    ends-seen Stands Leaves Tallies Sees Shows Tells w later act a k x y (Err halt) sees shows tells (inr h) =
+    ends-seen standing other w later act a k x y (Err halt) sees shows tells (inr h) =
         inr (record {
           world = h.world;
           tidy = h.tidy;
@@ -238,12 +191,11 @@ module _ {K : Type 0} (Took : K → Report → K → Type 0) (Broke : K → Repo
         })
 
     -- no memory, before more was told
-    pub ends-memory : {R : Type 0} (Stands : World → R → Type 0) (Leaves : Halt → World → R → Type 0)
-        (Tallies : World → R → Type 0) (act : Act) (w : World)
-        (later : List Chance) (a : K) (new : Moment R K) → IsTidy w → Tallies w new.value
+    pub ends-memory : {R : Type 0} (standing : Standing R) (act : Act) (w : World)
+        (later : List Chance) (a : K) (new : Moment R K) → IsTidy w → standing.Counts w new.value
         → new.outlet ≡ a
-        → Ends Stands Leaves Tallies Took Broke w later act a new (Err halts.Memory)
-    ends-memory Stands Leaves Tallies act w later a new tidy counts same = inr (record {
+        → Ends standing Took Broke w later act a new (Err halts.Memory)
+    ends-memory standing act w later a new tidy counts same = inr (record {
       world = w;
       tidy = tidy;
       counts = counts;
@@ -289,7 +241,7 @@ module _ {K : Type 0} {Took : K → Report → K → Type 0} {Broke : K → Repo
     then-err f g old new e d = record {
       chances = d.chances;
       ends = λ mark w later is reached comes.
-          ends-early Took Broke (StandsSince mark) (LeavesAt mark) Counts f g w later old.outlet new e
+          ends-early Took Broke (stages_since mark) f g w later old.outlet new e
           (d.ends mark w later is reached comes.0);
       seats = d.seats;
     }
@@ -305,7 +257,7 @@ module _ {K : Type 0} {Took : K → Report → K → Type 0} {Broke : K → Repo
           (both-chances w.kept.chances d.chances e.chances later is) reached comes.0 in
           let comes_later : Comes g first.0 =
           going (perform f w) first.0 (λ v. IsTidy v → Comes g v) first.1 comes.1 first.2.tidy in
-          ends-behind Took Broke (StandsSince mark) (LeavesAt mark) Counts (seq f g) g w first.0 later
+          ends-behind Took Broke (stages_since mark) (seq f g) g w first.0 later
           old.outlet mid.outlet new r first.3 first.5 (as-left f g w first.0 first.1)
           (e.ends mark first.0 later first.4 first.2 comes_later);
       seats = seats-then old.value.words mid.value.words new.value.words d.seats e.seats;
@@ -326,7 +278,7 @@ module _ {K : Type 0} {Took : K → Report → K → Type 0} {Broke : K → Repo
     memory-does act old new tally same seats = record {
       chances = [];
       ends = λ mark w later is reached comes.
-          ends-memory Took Broke (StandsSince mark) (LeavesAt mark) Counts act w later old.outlet new reached.tidy
+          ends-memory Took Broke (stages_since mark) act w later old.outlet new reached.tidy
           (tally ∙ reached.stands.stands.tally) same;
       seats = seats;
     }
@@ -356,103 +308,31 @@ module _ {K : Type 0} {Took : K → Report → K → Type 0} {Broke : K → Repo
     pub handed-on : (act : Act) (old new : Moment Stage K) (e : Halt) (r : Result (Unit {0}) Halt)
         → Did Took Broke act old new (Err e) → IsErrAnd r (λ y. y ≡ e)
         → Did Took Broke act old new r
-    handed-on act old new e r d is =
-        let p = err_from_is_err_and r is in
-        subst (λ (r : Result (Unit {0}) Halt). Did Took Broke act old new r)
-        (sym (p.1 ∙ ap (λ (y : Halt). Err y) p.2)) d
+    handed-on act old new e r d is = hand-on (Did Took Broke) act old new e r d is
 
 -- what is left of an act, done from here, is the whole act done from the start
-pub record Leads {K : Type 0} (Took : K → Report → K → Type 0)
-    (Broke : K → Report → K → Unwritten → Type 0) (whole : Act) (old : Moment Stage K) (left : Act)
-    (now : Moment Stage K) : Type 0 where
-  pub leads : (new : Moment Stage K) (r : Result (Unit {0}) Halt) → Did Took Broke left now new r
-      → Did Took Broke whole old new r
+abbrev pub Leads : {K : Type 0} → (K → Report → K → Type 0) → (K → Report → K → Unwritten → Type 0)
+    → Act → Moment Stage K → Act → Moment Stage K → Type 0
+Leads Took Broke whole old left now = LeadsBy (Did Took Broke) whole old left now
 
 module _ {K : Type 0} {Took : K → Report → K → Type 0} {Broke : K → Report → K → Unwritten → Type 0}
   where
-    pub leads-start : (f : Act) (now : Moment Stage K) → Leads Took Broke f now f now
-    leads-start f now = record { leads = λ new r d. d }
-
-    pub leads-step : (f g h : Act) (old now next : Moment Stage K)
-        → Leads Took Broke f old (seq h g) now → Did Took Broke h now next (Ok tt)
-        → Leads Took Broke f old g next
-    leads-step f g h old now next l d =
-        record { leads = λ new r e. l.leads new r (then-ok h g now next new r d e) }
-
-    pub leads-err : (f g h : Act) (old now next : Moment Stage K) (e : Halt)
-        → Leads Took Broke f old (seq h g) now → Did Took Broke h now next (Err e)
-        → Did Took Broke f old next (Err e)
-    leads-err f g h old now next e l d = l.leads next (Err e) (then-err h g now next e d)
-
-    pub leads-end : (f : Act) (old now : Moment Stage K) → Leads Took Broke f old nothing now
-        → Did Took Broke f old now (Ok tt)
-    leads-end f old now l = l.leads now (Ok tt) (nothing-does now)
+    pub in-turn : IsInTurn (Did Took Broke)
+    in-turn = record { none = nothing-does; early = then-err; both = then-ok }
 
     -- what is left of an act that looks is what it is here
     pub look-leads : (f : World → Act) (here : Act) (now : Moment Stage K)
         → ((w : World) → StandsFor w now.value → IsTidy w → here ≡ f w)
         → Leads Took Broke (look f) now here now
     look-leads f here now same = record {
+      turn = in-turn;
       leads = λ new r d. record {
         chances = d.chances;
         ends = λ mark w later is reached comes.
             let e : here ≡ f w = same w reached.stands.stands reached.tidy in
             subst (λ (a : Act).
-            Ends (StandsSince mark) (LeavesAt mark) Counts Took Broke w later a now.outlet new r) e
+            Ends (stages_since mark) Took Broke w later a now.outlet new r) e
             (d.ends mark w later is reached (subst (λ (a : Act). Comes a w) (sym e) comes));
         seats = d.seats;
       };
     }
-
-    pub span-step : (f : ℕ → Act) (i n : ℕ) (whole : Act) (old now next : Moment Stage K) → i < n
-        → Leads Took Broke whole old (span f i (n - i)) now → Did Took Broke (f i) now next (Ok tt)
-        → Leads Took Broke whole old (span f (i + 1) (n - (i + 1))) next
-    span-step f i n whole old now next lt l d =
-        leads-step whole _ (f i) old now next
-        (subst (λ (a : Act). Leads Took Broke whole old a now) (span-next f i n lt) l) d
-
-    -- the exit of a `?`
-    pub span-exit : (f : ℕ → Act) (i n : ℕ) (whole : Act) (old now next : Moment Stage K) (e : Halt)
-        (r : Result (Unit {0}) Halt) → i < n
-        → Leads Took Broke whole old (span f i (n - i)) now → Did Took Broke (f i) now next (Err e)
-        → IsErrAnd r (λ y. y ≡ e) → Did Took Broke whole old next r
-    span-exit f i n whole old now next e r lt l d is =
-        handed-on whole old next e r (leads-err whole _ (f i) old now next e
-        (subst (λ (a : Act). Leads Took Broke whole old a now) (span-next f i n lt) l) d) is
-
-    pub span-end : (f : ℕ → Act) (i n : ℕ) (whole : Act) (old now : Moment Stage K) → n ≤ i
-        → Leads Took Broke whole old (span f i (n - i)) now → Did Took Broke whole old now (Ok tt)
-    span-end f i n whole old now le l =
-        leads-end whole old now
-        (subst (λ (a : Act). Leads Took Broke whole old a now) (span-done f i n le) l)
-
-    pub span-start : (f : ℕ → Act) (n : ℕ) (now : Moment Stage K)
-        → Leads Took Broke (span f 0 n) now (span f 0 (n - 0)) now
-    span-start f n now = let e : n - 0 ≡ n = omega arith in rw e (leads-start (span f 0 n) now)
-
-    -- each begins with its first
-    pub each-step : (f : ℕ → Act) (xs : List ℕ) (i : ℕ) (whole : Act)
-        (old now next : Moment Stage K) → i < length xs
-        → Leads Took Broke whole old (each f (drop i xs)) now
-        → Did Took Broke (f (get_or xs i 0)) now next (Ok tt)
-        → Leads Took Broke whole old (each f (drop (i + 1) xs)) next
-    each-step f xs i whole old now next lt l d =
-        leads-step whole _ (f (get_or xs i 0)) old now next
-        (subst (λ (ys : List ℕ). Leads Took Broke whole old (each f ys) now) (drop-one xs i lt) l) d
-
-    pub each-err : (f : ℕ → Act) (xs : List ℕ) (i : ℕ) (whole : Act) (old now next : Moment Stage K)
-        (e : Halt) (r : Result (Unit {0}) Halt) → i < length xs
-        → Leads Took Broke whole old (each f (drop i xs)) now
-        → Did Took Broke (f (get_or xs i 0)) now next (Err e) → IsErrAnd r (λ y. y ≡ e)
-        → Did Took Broke whole old next r
-    each-err f xs i whole old now next e r lt l d is =
-        handed-on whole old next e r (leads-err whole _ (f (get_or xs i 0)) old now next e
-        (subst (λ (ys : List ℕ). Leads Took Broke whole old (each f ys) now) (drop-one xs i lt) l) d)
-        is
-
-    pub each-end : (f : ℕ → Act) (xs : List ℕ) (i : ℕ) (whole : Act) (old now : Moment Stage K)
-        → length xs ≤ i → Leads Took Broke whole old (each f (drop i xs)) now
-        → Did Took Broke whole old now (Ok tt)
-    each-end f xs i whole old now le l =
-        leads-end whole old now
-        (subst (λ (ys : List ℕ). Leads Took Broke whole old (each f ys) now) (drop-past xs i le) l)

@@ -25,7 +25,7 @@ use Rattle.lan_schedule.specs.Reports.{Report, reports}
 use Rattle.lan_schedule.specs.Sound.{IsTidy}
 use Rattle.lan_schedule.specs.inside.Comes.{Comes}
 use Rattle.lan_schedule.specs.inside.Weaves.{reports_with}
-use Rattle.lan_schedule.proofs.Coming.{is-going}
+use Rattle.trace_acts.proofs.Public.{is-going}
 
 -- ---- what an emission shows
 

@@ -3,7 +3,6 @@ use Rattle.std.proofs.Common.{◌≡◌, ◌<◌, ◌≤◌, ℕ, ◌+◌, Bool,
 use Rattle.std.proofs.Common.{inl, inr, refl, sym, ap, ◌∙◌, subst, arith}
 use Rattle.std.specs.Prelude.{◌⊎◌, Result, Ok, Err, MatchResult, unwrap_or, is_some, option_map}
 use Rattle.std.specs.Result.{IsErrAnd}
-use Rattle.std.proofs.lemmas.Result.{err_from_is_err_and}
 use Rattle.lan_base.specs.declared.frame.UserFrame.{UserFrame}
 use Rattle.lan_core.specs.declared.event.Event.{Event}
 use Rattle.lan_core.specs.declared.event.Event.TheVariants as events
@@ -22,6 +21,7 @@ use Rattle.lan_core.specs.Order.{is_event_of}
 use Rattle.association_slots.specs.Views.{ControlAt}
 use Rattle.group_safety.specs.Accounts.{IsExact as IsExactIn}
 use Rattle.station_words.specs.Ties.{HaveCaughtUp, HaveKeptUp, HaveLooked, KeepAhead, Followed}
+use Rattle.trace_acts.proofs.Public.{handed-on}
 use Rattle.station_words.proofs.Public.{looked-none as unlooked}
 use Rattle.worker_races.specs.declared.merge.step.Step.{Step}
 use Rattle.worker_races.specs.Carded.{AreCarded}
@@ -51,9 +51,9 @@ use Rattle.lan_schedule.specs.Numbers.{shown_next, number_shown, decided}
 use Rattle.lan_schedule.specs.Lines.{tick}
 use Rattle.lan_schedule.specs.inside.Comes.{Comes, named}
 use Rattle.lan_schedule.specs.inside.Set.{SaysAhead, AreSet, IsGiven}
-use Rattle.lan_schedule.specs.Stages.{Says, StandsWith, StandsFor, Counts}
+use Rattle.lan_schedule.specs.Stages.{Says, StandsWith, StandsFor}
 use Rattle.lan_schedule.specs.inside.Staged.{Did, DidWhere, FindsLeft, Happened, IsSetSince, WentOn}
-use Rattle.lan_schedule.specs.inside.Recording.{Mark, StandsSince, LeavesAt, HasLooked, HasRecorded}
+use Rattle.lan_schedule.specs.inside.Recording.{Mark, StandsSince, LeavesAt, HasLooked, HasRecorded, stages_since}
 use Rattle.lan_schedule.specs.inside.Recording.{HasStopped}
 use Rattle.lan_schedule.specs.inside.Recording.{KeepSeats, KeepsStep, epoch_of, is_start}
 use Rattle.lan_schedule.specs.inside.Recording.{steps_of}
@@ -357,7 +357,7 @@ module _ {K : Type 0} (Took : K → Report → K → Type 0) (Broke : K → Repo
         (λ y. Broke a (report_of event facts w) new.outlet y
         ⊎ ((y ≡ whys.Memory) × (new.outlet ≡ a)))
         → answer w event ≡ Ok facts → IsTidy w
-        → Ends (StandsSince mark) (LeavesAt mark) Counts Took Broke w later (happen event) a new
+        → Ends (stages_since mark) Took Broke w later (happen event) a new
         (handed why)
     told-ends mark w event facts later a new (Ok done) is tidy stands took shows before = (
       world_after w event facts,
@@ -498,8 +498,7 @@ module _ {K : Type 0} {Took : K → Report → K → Type 0} {Broke : K → Repo
         → (event ≡ events.Emit → new.value.words ≡ old.value.words)
         → WentOn Took Broke event facts mid old new (Err halts.Memory)
     went-wanting event facts mid old new tally same seats still = record {
-      ends = λ mark w later left reached comes went. ends-memory Took Broke (StandsSince mark)
-          (LeavesAt mark) Counts (happen event) w later old.outlet new reached.tidy
+      ends = λ mark w later left reached comes went. ends-memory Took Broke (stages_since mark) (happen event) w later old.outlet new reached.tidy
           (tally ∙ reached.stands.stands.tally) same;
       seats = seats;
       still = still;
@@ -510,9 +509,7 @@ module _ {K : Type 0} {Took : K → Report → K → Type 0} {Broke : K → Repo
         (e : Halt) (r : Result (Unit {0}) Halt) → WentOn Took Broke event facts mid old new (Err e)
         → IsErrAnd r (λ y. y ≡ e) → WentOn Took Broke event facts mid old new r
     went-err event facts mid old new e r d is =
-        let p = err_from_is_err_and r is in
-        subst (λ (r : Result (Unit {0}) Halt). WentOn Took Broke event facts mid old new r)
-        (sym (p.1 ∙ ap (λ (y : Halt). Err y) p.2)) d
+        handed-on (WentOn Took Broke event facts) mid old new e r d is
 
     -- the event of a step happened
     pub event-did : (given : Option UserFrame) (event : Event) (facts : List Fact) (mid : Stage)
@@ -537,7 +534,7 @@ module _ {K : Type 0} {Took : K → Report → K → Type 0} {Broke : K → Repo
         → w.kept.chances ≡ decided old.value.raced event ++ later
         → IsReached (IsSetSince event mark) w old.value
         → first_stop (settings w) w.kept.users w.run event (supply_nth old.value.draws) ≡ Some stop
-        → Ends (StandsSince mark) (LeavesAt mark) Counts Took Broke w later (happen event)
+        → Ends (stages_since mark) Took Broke w later (happen event)
         old.outlet new (Err (halt_of line stop))
     stopped-ends event stop line old new mark w later is_line tally same words steps names left reached
         first =
@@ -666,9 +663,9 @@ module _ {K : Type 0} {Took : K → Report → K → Type 0} {Broke : K → Repo
           (next w.kept.raced racing (settings w) w.run says there) in
           let comes_n : Comes (happen (events.Tick s n)) w =
           subst (λ (m : ℕ). Comes (happen (events.Tick s m)) w) (sym number) comes in
-          subst (λ (m : ℕ). Ends (StandsSince mark) (LeavesAt mark) Counts Took Broke w later
+          subst (λ (m : ℕ). Ends (stages_since mark) Took Broke w later
           (happen (events.Tick s m)) old.outlet new r) number
-          (subst (λ (k : K). Ends (StandsSince mark) (LeavesAt mark) Counts Took Broke w later
+          (subst (λ (k : K). Ends (stages_since mark) Took Broke w later
           (happen (events.Tick s n)) k new r) outlet
           (h.ends mark w later is (record {
             stands = record {
@@ -694,7 +691,7 @@ module _ {K : Type 0} {Took : K → Report → K → Type 0} {Broke : K → Repo
         → (event ≡ events.Emit → new.value.words ≡ old.value.words)
         → Happened Took Broke given event old new (Err halts.Memory)
     event-wanting given event old new tally same seats still = record {
-      ends = λ mark w later left reached named comes. ends-memory Took Broke (StandsSince mark) (LeavesAt mark) Counts (happen event) w later
+      ends = λ mark w later left reached named comes. ends-memory Took Broke (stages_since mark) (happen event) w later
           old.outlet new reached.tidy (tally ∙ reached.stands.stands.tally) same;
       seats = seats;
       still = still;
@@ -705,6 +702,4 @@ module _ {K : Type 0} {Took : K → Report → K → Type 0} {Broke : K → Repo
         (e : Halt) (r : Result (Unit {0}) Halt) → Happened Took Broke given event old new (Err e)
         → IsErrAnd r (λ y. y ≡ e) → Happened Took Broke given event old new r
     happened-err given event old new e r d is =
-        let p = err_from_is_err_and r is in
-        subst (λ (r : Result (Unit {0}) Halt). Happened Took Broke given event old new r)
-        (sym (p.1 ∙ ap (λ (y : Halt). Err y) p.2)) d
+        handed-on (Happened Took Broke given) event old new e r d is

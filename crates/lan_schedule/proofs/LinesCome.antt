@@ -51,7 +51,8 @@ use Rattle.lan_core.specs.Lives.{transmitting_at}
 use Rattle.lan_core.specs.Stops.{MayCome}
 use Rattle.lan_schedule.proofs.Awaiting.{waits-then}
 use Rattle.lan_schedule.proofs.Still.{stays}
-use Rattle.lan_schedule.proofs.Coming.{IsOnAir, is-going, one-at-least, comes-span, comes-ticks}
+use Rattle.trace_acts.proofs.Public.{comes-span, is-going}
+use Rattle.lan_schedule.proofs.Coming.{IsOnAir, lasts, one-at-least, comes-ticks}
 use Rattle.lan_schedule.proofs.Coming.{comes-rounds, comes-spread, comes-flow, tidy-marked}
 
 -- ---- what a line is not refused for
@@ -384,8 +385,8 @@ deed-comes (lines.Feed first last name) form w tidy apart right =
     let low = (numbered-in first count outer.0).0 in
     let high = (numbered-in last count inner.0).1 in
     let there = known name w inner.1 in
-    comes-span (λ k. happen (events.Deliver (first + k) (place w name))) 0 (last + 1 - first) w tidy
-    (λ k v below l tidy_v. (
+    comes-span lasts (λ k. happen (events.Deliver (first + k) (place w name))) 0 (last + 1 - first) w tidy
+    (λ k v ge below l tidy_v. (
       (
         omega (arith, there, l.count),
         l.frames (first + k)

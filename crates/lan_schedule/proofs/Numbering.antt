@@ -1,5 +1,5 @@
 -- Whether there are numbers left for user frames and claims.
-use Rattle.std.proofs.Common.{◌≡◌, ◌≤◌, ◌<◌, ◌+◌, ◌⊎◌, ◌||◌, ℕ, Bool, true, false, cond, inl, inr}
+use Rattle.std.proofs.Common.{◌≡◌, ◌≤◌, ◌+◌, ◌||◌, ℕ, Bool, true, false, inl, inr}
 use Rattle.std.proofs.Common.{List, [], ◌∷◌, length, map, min, refl, sym, ap, ◌∙◌, subst, arith}
 use Rattle.std.specs.Prelude.{Option, Some, None, nat_lt, option_map, OnOk, Result, Ok, Err}
 use Rattle.std.specs.Option.{option_or}
@@ -27,11 +27,11 @@ use Rattle.lan_schedule.specs.Lines.{add_user, air_excess, excess_of, is_over, o
 use Rattle.lan_schedule.specs.Lines.{control_act, run_race, send_new, unless_exceeded}
 use Rattle.lan_schedule.specs.Reports.{Report}
 use Rattle.lan_schedule.specs.Ends.{Ends, Moment}
-use Rattle.lan_schedule.specs.Stages.{Counts, StandsFor}
+use Rattle.lan_schedule.specs.Stages.{StandsFor}
 use Rattle.lan_schedule.specs.Woven.{worker_of}
 use Rattle.lan_schedule.specs.inside.Beside.{HasEnlisted, HasMoved, IsOver, IsUnhired, IsUnlisted}
 use Rattle.lan_schedule.specs.inside.Comes.{Comes}
-use Rattle.lan_schedule.specs.inside.Recording.{LeavesAt, StandsSince}
+use Rattle.lan_schedule.specs.inside.Recording.{stages_since}
 use Rattle.lan_schedule.specs.inside.Staged.{Did}
 use Rattle.lan_schedule.proofs.Claiming.{claims-counted}
 use Rattle.lan_schedule.proofs.Doing.{told-none}
@@ -128,7 +128,7 @@ module _ {K : Type 0} {Took : K → Report → K → Type 0} {Broke : K → Repo
           let act : Act = seq (add_user user) (send s) in
           let none = over-isnt w old.value 1 1 reached.stands.stands users claimed in
           subst (λ (b : Bool). Comes (unless_exceeded (over_excess b) act) w
-          → Ends (StandsSince mark) (LeavesAt mark) Counts Took Broke w later
+          → Ends (stages_since mark) Took Broke w later
           (unless_exceeded (over_excess b) act) old.outlet new r) (sym none)
           (λ comes_act. d.ends mark w later left reached comes_act) comes;
       seats = d.seats;

@@ -26,7 +26,7 @@ use Rattle.trace_acts.specs.Settings.{settings_of, lag_of, rule_of, unkeyed}
 use Rattle.trace_acts.specs.Kinds.{first_of, is_allowed}
 use Rattle.trace_acts.specs.Choosing.{chosen_by}
 use Rattle.trace_acts.specs.Places.{is_elsewhere, is_race, IsStation}
-use Rattle.trace_acts.proofs.Public.{chosen-draws}
+use Rattle.trace_acts.proofs.Public.{chosen-draws, station-later}
 use Rattle.lan_schedule.specs.declared.stage.Stage.{Stage}
 use Rattle.lan_schedule.specs.declared.commands.Replay.{Replay}
 use Rattle.lan_schedule.specs.Races.{Phase, Apart, Chance, behind_numbers}
@@ -98,23 +98,6 @@ opens w chosen line stage keyed opening is_line lag lan draws users frames cuts 
     words tally fresh none)
 
 -- ---- lines before the first station
-
-station-later : (line : Line) → IsStation line → is_elsewhere line ≡ false
-station-later (lines.Station name sci priority) station = refl
-station-later lines.DrawsCount station = absurd station
-station-later (lines.DrawsChaCha key) station = absurd station
-station-later (lines.DrawsList values) station = absurd station
-station-later (lines.Conf conf) station = absurd station
-station-later (lines.Window window) station = absurd station
-station-later (lines.Rekey rekey) station = absurd station
-station-later (lines.Lag lag) station = absurd station
-station-later (lines.Suite suite) station = absurd station
-station-later (lines.Flag early) station = absurd station
-station-later (lines.Group cak ckn) station = absurd station
-station-later (lines.Burst name workers frames destination body) station = absurd station
-station-later lines.While station = absurd station
-station-later lines.End station = absurd station
-station-later _ station = refl
 
 pub station-no-race : (line : Line) → IsStation line → is_race line ≡ false
 station-no-race lines.Race station = absurd station

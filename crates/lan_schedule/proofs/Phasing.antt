@@ -34,7 +34,7 @@ use Rattle.lan_schedule.specs.Lines.{act_of, deed, deed_at, deed_controlling, en
 use Rattle.lan_schedule.specs.Lines.{unless_refused, behind_while, behind_race, burst_of, kept_line}
 use Rattle.lan_schedule.specs.Reports.{Report}
 use Rattle.lan_schedule.specs.Ends.{Moment, IsReached, Ends}
-use Rattle.lan_schedule.specs.Standing.{phase_of, AreFit, IsBurst, IsControl, IsStaged, HasTally, StandsFor, Counts, Does}
+use Rattle.lan_schedule.specs.Standing.{phase_of, AreFit, IsBurst, IsControl, IsStaged, HasTally, StandsFor, Counts, Does, replays}
 use Rattle.lan_schedule.specs.Stages.{Says, StandsFor as StageStandsFor}
 use Rattle.lan_schedule.specs.inside.Phased.{is_inside, is_taken, is_end, behind, MayBeKept, Takes}
 use Rattle.lan_schedule.specs.Woven.{is_controlling, race_in}
@@ -280,7 +280,7 @@ module _ {K : Type 0} {Took : K → Report → K → Type 0} {Broke : K → Repo
         (old new : Moment Replay K) → IsReached StandsFor w old.value → Counts w new.value
         → new.outlet ≡ old.outlet → w.kept.chances ≡ later
         → Takes line w new.value.phase (Err halt)
-        → Ends StandsFor (λ halt. Counts) Counts Took Broke w later (act_of line) old.outlet new (Err halt)
+        → Ends replays Took Broke w later (act_of line) old.outlet new (Err halt)
     taken-early line w later halt old new reached counts same left (inl stops) = inl (record {
       world = w;
       stops = stops;
@@ -291,9 +291,9 @@ module _ {K : Type 0} {Took : K → Report → K → Type 0} {Broke : K → Repo
       same = refl;
     })
     taken-early line w later halt old new reached counts same left (inr memory) =
-        subst (λ (h : Halt). Ends StandsFor (λ halt. Counts) Counts Took Broke w later (act_of line)
+        subst (λ (h : Halt). Ends replays Took Broke w later (act_of line)
         old.outlet new (Err h)) (sym memory)
-        (ends-memory Took Broke StandsFor (λ halt. Counts) Counts (act_of line) w later old.outlet new reached.tidy
+        (ends-memory Took Broke replays (act_of line) w later old.outlet new reached.tidy
         counts same)
 
     pub taken-does : (line : Line) (old new : Moment Replay K) (stage : Stage)

@@ -21,7 +21,8 @@ use Rattle.lan_schedule.specs.Sound.{IsTidy}
 use Rattle.lan_schedule.specs.Standing.{IsControl}
 use Rattle.lan_schedule.specs.inside.Comes.{Comes}
 use Rattle.lan_schedule.specs.inside.Choosing.{MayControl}
-use Rattle.lan_schedule.proofs.Coming.{AllHave, IsLater, comes-each, comes-flow, comes-rounds}
+use Rattle.trace_acts.proofs.Public.{comes-each}
+use Rattle.lan_schedule.proofs.Coming.{IsLater, comes-flow, comes-rounds, lasts}
 use Rattle.lan_schedule.proofs.Coming.{comes-spread, comes-ticks, tidy-marked}
 use Rattle.lan_schedule.proofs.LinesCome.{known, on-air, refused-comes, tidy-same}
 use Rattle.lan_schedule.proofs.Steady.{control-steady}
@@ -123,11 +124,6 @@ tidy-begun workers w tidy = record {
   dealt = tidy.dealt;
 }
 
-all-ready : (w : World) (control : List Numbered)
-    → AllByRecursion (IsControl (names_of w.run)) control → AllHave (IsReady w) control
-all-ready w [] all = tt
-all-ready w (kept ∷ control) all = (all.0, all-ready w control all.1)
-
 all-control : (names : List (List ℕ)) (control : List Numbered)
     → AllByRecursion (IsControl names) control
     → AllByRecursion (λ kept. is_control kept.line ≡ true) control
@@ -140,8 +136,8 @@ run-comes : (bursts : List Burst) (control : List Numbered) (w : World) → IsTi
 run-comes bursts control w tidy fit None =
     let begun = begun_race (workers_of bursts) w in (
       tidy-begun (workers_of bursts) w tidy,
-      comes-each (IsReady begun) controlled control begun (tidy-begun (workers_of bursts) w tidy)
-          (all-ready begun control fit) (λ kept v ready later tidy_v.
+      comes-each lasts (IsReady begun) controlled control begun (tidy-begun (workers_of bursts) w tidy)
+          fit (λ kept v ready later tidy_v.
           line-comes kept v (ready-later begun v kept later ready) tidy_v),
       control-steady control begun (all-control (names_of w.run) control fit),
     )

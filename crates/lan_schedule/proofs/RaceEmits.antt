@@ -45,7 +45,7 @@ use Rattle.lan_schedule.specs.Woven.{WasWoven, controlled_in}
 use Rattle.lan_schedule.specs.inside.Beside.{HasRun, IsLeft, Leaves, Weaves, has_stopped}
 use Rattle.lan_schedule.specs.inside.Beside.{mark_of}
 use Rattle.lan_schedule.specs.inside.Comes.{IsSteady}
-use Rattle.lan_schedule.specs.inside.Recording.{LeavesAt, Mark, StandsSince}
+use Rattle.lan_schedule.specs.inside.Recording.{LeavesAt, Mark, StandsSince, stages_since}
 use Rattle.lan_schedule.specs.inside.Staged.{Did}
 use Rattle.lan_schedule.specs.inside.Weaves.{KeepsNoMore, KeepsReport, reports_with}
 use Rattle.lan_schedule.proofs.Emitted.{ShowsMore, comes-emits, emits-more}
@@ -231,7 +231,7 @@ module _ (w : World) (workers : List Worker) (lines : List Numbered) (now : Stag
     many = emitted.many ∙ many-frames
 
     emit-ends : more ≡ emitted.did.chances
-        → Ends (StandsSince (mark_of w has.begun)) (LeavesAt (mark_of w has.begun)) Counts KeepsReport
+        → Ends (stages_since (mark_of w has.begun)) KeepsReport
         KeepsNoMore u rest (times count (happen Emit)) first (moment new shown) result
     emit-ends own = emitted.did.ends (mark_of w has.begun) u rest
         (left-after w workers lines now ran has all false v at steady laws old mid es frames first
@@ -332,7 +332,7 @@ module _ (mark : Mark) (w u : World) (later : List Chance) (emit : Act) (new : S
     → IsLeft w x new shown) where
   -- where control performed all its lines
   all-lines : (out : Course) (c : Result (Unit {0}) Halt) → (c ≡ Err halts.Memory → ⊥)
-      → Ends (StandsSince mark) (LeavesAt mark) Counts KeepsReport KeepsNoMore u later emit first
+      → Ends (stages_since mark) KeepsReport KeepsNoMore u later emit first
       (moment new shown) c
       → out ≡ perform emit u → Leaves w later out new shown c
   all-lines out (Ok tt) some h is = (
@@ -354,7 +354,7 @@ module _ (mark : Mark) (w u : World) (later : List Chance) (emit : Act) (new : S
   -- where one of them was refused
   some-lines : (out : Course) (halt : Halt) (c : Result (Unit {0}) Halt)
       → (c ≡ Err halts.Memory → ⊥)
-      → Ends (StandsSince mark) (LeavesAt mark) Counts KeepsReport KeepsNoMore u later emit first
+      → Ends (stages_since mark) KeepsReport KeepsNoMore u later emit first
       (moment new shown) c
       → out ≡ ends_with halt (perform emit u) → Leaves w later out new shown (Err halt)
   some-lines out halt (Ok tt) some h is = (
@@ -392,7 +392,7 @@ weaves-emitted ran old mid set new es frames count first shown result laws going
         (now : Stage) (has : HasRun w workers lines now ran)
         → old ≡ record now { line = w.kept.line; tally = counts (facts_of w.run) }
         → (c : Result (Unit {0}) Halt) → has_stopped c ≡ false
-        → Ends (StandsSince (mark_of w has.begun)) (LeavesAt (mark_of w has.begun)) Counts
+        → Ends (stages_since (mark_of w has.begun))
         KeepsReport KeepsNoMore (begun_race workers w)
         (Woven (claims_from es) ∷ (emitted.did.chances ++ later))
         (control_act lines) []

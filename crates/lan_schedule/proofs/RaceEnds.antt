@@ -27,12 +27,11 @@ use Rattle.lan_schedule.specs.Acts.{world_of}
 use Rattle.lan_schedule.specs.Lines.{control_act}
 use Rattle.lan_schedule.specs.Reports.{reports}
 use Rattle.lan_schedule.specs.Ends.{Ends, moment}
-use Rattle.lan_schedule.specs.Stages.{Counts}
 use Rattle.lan_schedule.specs.Woven.{WasWoven, controlled_in}
 use Rattle.lan_schedule.specs.inside.Beside.{HasRun, IsLeft, Leaves, Weaves, has_stopped, is_memory}
 use Rattle.lan_schedule.specs.inside.Beside.{mark_of}
 use Rattle.lan_schedule.specs.inside.Comes.{IsSteady}
-use Rattle.lan_schedule.specs.inside.Recording.{LeavesAt, StandsSince}
+use Rattle.lan_schedule.specs.inside.Recording.{stages_since}
 use Rattle.lan_schedule.specs.inside.Weaves.{KeepsNoMore, KeepsReport, facts_in, reports_with, shown_in}
 use Rattle.lan_schedule.proofs.PartReports.{facts_by}
 use Rattle.lan_schedule.proofs.RaceOf.{on-run, race, were-beside}
@@ -69,7 +68,7 @@ module _ (w : World) (workers : List Worker) (lines : List Numbered) (now : Stag
 
   -- control's course, as it ended
   pub control-ends : w.kept.chances ≡ has.beside.did.chances ++ later
-      → Ends (StandsSince (mark_of w has.begun)) (LeavesAt (mark_of w has.begun)) Counts
+      → Ends (stages_since (mark_of w has.begun))
       KeepsReport KeepsNoMore (begun_race workers w) later
       (control_act lines) []
       (moment has.beside.moved ran.kept) ran.came
@@ -197,7 +196,7 @@ weaves-stopped ran old new es frames shown laws some stopped merged = record {
       (now : Stage) (has : HasRun w workers lines now ran)
       → old ≡ record now { line = w.kept.line; tally = counts (facts_of w.run) }
       → (c : Result (Unit {0}) Halt) → has_stopped c ≡ true → (c ≡ Err halts.Memory → ⊥)
-      → Ends (StandsSince (mark_of w has.begun)) (LeavesAt (mark_of w has.begun)) Counts
+      → Ends (stages_since (mark_of w has.begun))
       KeepsReport KeepsNoMore (begun_race workers w) (Woven (claims_from es) ∷ later)
       (control_act lines) []
       (moment has.beside.moved ran.kept) c

@@ -27,7 +27,7 @@ use Rattle.lan_schedule.specs.Acts.{Act, Course, Stops, after_race, begun_race, 
 use Rattle.lan_schedule.specs.Lines.{control_act, excess_of, run_race, unless_exceeded}
 use Rattle.lan_schedule.specs.Reports.{Report}
 use Rattle.lan_schedule.specs.Ends.{Ends, IsReached, Moment, moment}
-use Rattle.lan_schedule.specs.Stages.{Counts, Says, StandsFor}
+use Rattle.lan_schedule.specs.Stages.{Says, StandsFor, stages}
 use Rattle.lan_schedule.specs.Standing.{AreBursts, IsBurst}
 use Rattle.lan_schedule.specs.Woven.{WasBegun}
 use Rattle.lan_schedule.specs.inside.Beside.{AreHired, DidRace, EndsRace, HaveSeats, IsUnhired, RanBeside}
@@ -146,7 +146,7 @@ module _ {K : Type 0} {Took : K → Report → K → Type 0} {Broke : K → Repo
       where
         by : (w : World) (later : List Chance) → w.kept.chances ≡ later
             → IsReached StandsFor w old.value → IsUnhired w bursts control halt
-            → Ends StandsFor (λ halt. Counts) Counts Took Broke w later
+            → Ends stages Took Broke w later
             (run_race bursts control w) old.outlet new (Err halt)
         by w later left reached (inl stops) = inl (record {
           world = w;
@@ -158,9 +158,9 @@ module _ {K : Type 0} {Took : K → Report → K → Type 0} {Broke : K → Repo
           same = refl;
         })
         by w later left reached (inr memory) =
-            subst (λ (h : Halt). Ends StandsFor (λ halt. Counts) Counts Took Broke w later
+            subst (λ (h : Halt). Ends stages Took Broke w later
             (run_race bursts control w) old.outlet new (Err h)) (sym memory)
-            (ends-memory Took Broke StandsFor (λ halt. Counts) Counts (run_race bursts control w) w
+            (ends-memory Took Broke stages (run_race bursts control w) w
             later old.outlet new reached.tidy (tally ∙ reached.stands.tally) outlet)
 
     -- workers were hired, control was performed beside them, and the race ended so
@@ -179,7 +179,7 @@ module _ {K : Type 0} {Took : K → Report → K → Type 0} {Broke : K → Repo
               let are = hired w reached (have-seats w bursts old reached.stands apart fit) in
               let act : Act = race (workers_of bursts) (control_act control) in
               let may : Comes act w = subst (λ (o : Option Excess). Comes (unless_exceeded o act) w) are.1 comes in
-              subst (λ (o : Option Excess). Ends StandsFor (λ halt. Counts) Counts Took Broke w later
+              subst (λ (o : Option Excess). Ends stages Took Broke w later
               (unless_exceeded o act) k new result) (sym are.1)
               (ended.ends w later (workers_of bursts) control (record {
                 first = old;

@@ -21,10 +21,12 @@ use Rattle.lan_schedule.specs.Acts.{Act, Course, perform, race, world_of}
 use Rattle.lan_schedule.specs.Lines.{control_act}
 use Rattle.lan_schedule.specs.Reports.{AreTold, Report, reports}
 use Rattle.lan_schedule.specs.Ends.{Ends, Moment, moment}
-use Rattle.lan_schedule.specs.Stages.{Counts, StandsFor}
+use Rattle.lan_schedule.specs.Stages.{stages}
 use Rattle.lan_schedule.specs.inside.Beside.{EndsRace, IsLeft, Leaves, Weaves}
-use Rattle.lan_schedule.specs.inside.Weaves.{WereToldUpTo, reports_with}
-use Rattle.lan_schedule.proofs.Doing.{ends-memory, told-both}
+use Rattle.trace_acts.specs.Tellings.{WereToldUpTo}
+use Rattle.lan_schedule.specs.inside.Weaves.{reports_with}
+use Rattle.trace_acts.proofs.Public.{told-both}
+use Rattle.lan_schedule.proofs.Doing.{ends-memory}
 
 -- ---- told one by one
 
@@ -153,7 +155,7 @@ module _ {K : Type 0} (Took : K → Report → K → Type 0) (Broke : K → Repo
   } where
     by : (w : World) (later : List Chance) (act : Act) → is_racing w.kept.phase ≡ false
         → (c : Result (Unit {0}) Halt) → Leaves w later (perform act w) new shown c
-        → Ends StandsFor (λ halt. Counts) Counts Took Broke w later act k (moment new l) c
+        → Ends stages Took Broke w later act k (moment new l) c
     by w later act apart (Ok tt) h = (
       h.0,
       h.1,
@@ -192,7 +194,7 @@ module _ {K : Type 0} (Took : K → Report → K → Type 0) (Broke : K → Repo
     cut : (w : World) (later : List Chance) (workers : List Worker) (lines : List Numbered)
         → is_racing w.kept.phase ≡ false → (v : World) → IsLeft w v new shown
         → world_of (perform (race workers (control_act lines)) w) ≡ v
-        → Ends StandsFor (λ halt. Counts) Counts Took Broke w later (race workers (control_act lines)) k
+        → Ends stages Took Broke w later (race workers (control_act lines)) k
         (moment new l) (Err (halt_of_unwritten why))
     cut w later workers lines apart v left comes = inr (record {
       world = v;
@@ -217,7 +219,7 @@ module _ {K : Type 0} (Took : K → Report → K → Type 0) (Broke : K → Repo
     by : (w : World) (later : List Chance) (workers : List Worker) (lines : List Numbered)
         → is_racing w.kept.phase ≡ false → (c : Result (Unit {0}) Halt)
         → Leaves w later (perform (race workers (control_act lines)) w) new shown c
-        → Ends StandsFor (λ halt. Counts) Counts Took Broke w later (race workers (control_act lines)) k
+        → Ends stages Took Broke w later (race workers (control_act lines)) k
         (moment new l) (Err (halt_of_unwritten why))
     by w later workers lines apart (Ok tt) h =
         cut w later workers lines apart h.0 h.2 (ap (λ (o : Course). world_of o) h.1)
@@ -232,7 +234,7 @@ pub race-wanting : {K : Type 0} (Took : K → Report → K → Type 0)
 race-wanting Took Broke before ran now new k same = record {
   chances = [];
   ends = λ w later workers lines has left line tally.
-      ends-memory Took Broke StandsFor (λ halt. Counts) Counts (race workers (control_act lines)) w later
+      ends-memory Took Broke stages (race workers (control_act lines)) w later
       k (moment new k) has.reached.tidy (same ∙ tally) refl;
   woven = λ w later workers lines has left line tally memory. absurd (memory refl);
 }

@@ -1,6 +1,5 @@
 -- What a race does to a world: what was shown before it stays.
-use Rattle.std.proofs.Common.{ℕ, zero, suc, Bool, true, false, List, [], ◌∷◌, ◌++◌, refl, sym, ap}
-use Rattle.std.proofs.Common.{◌∙◌, append_assoc, append-nil}
+use Rattle.std.proofs.Common.{ℕ, zero, suc, Bool, true, false, List, [], ◌∷◌, refl}
 use Rattle.std.specs.Prelude.{cond, Result, Ok, Err}
 use Rattle.lan_core.specs.declared.event.Event.{Event}
 use Rattle.lan_core.specs.declared.event.Event.TheVariants as events
@@ -9,24 +8,16 @@ use Rattle.lan_core.specs.declared.settings.Settings.{Settings}
 use Rattle.lan_core.specs.Run.{Run, Happening, happened}
 use Rattle.trace_acts.specs.declared.halt.Halt.{Halt}
 use Rattle.trace_acts.specs.Names.{names_of}
+use Rattle.trace_acts.proofs.Public.{begins-self, begins-then, then-begins}
 use Rattle.lan_schedule.specs.Races.{Worker, Claimed, claims_in}
 use Rattle.lan_schedule.specs.World.{World, settings}
 use Rattle.lan_schedule.specs.Answers.{answer}
-use Rattle.lan_schedule.specs.Acts.{Course, Goes, Stops, shown, and_then, with_claims, woven, claim_of}
+use Rattle.lan_schedule.specs.Acts.{Course, Goes, Stops, shown, with_claims, woven, claim_of}
 use Rattle.lan_schedule.specs.Acts.{emitting, emitting_all, beside, after_race, since, is_stop}
-use Rattle.lan_schedule.specs.Reports.{Report, reports}
+use Rattle.lan_schedule.specs.Reports.{reports}
 use Rattle.lan_schedule.specs.Ends.{Begins, reported}
 
 -- ---- what was shown stays
-
-pub begins-self : (text : List Report) → Begins text text
-begins-self text = record { more = []; parts = append-nil text }
-
-pub begins-then : (a b c : List Report) → Begins a b → Begins b c → Begins a c
-begins-then a b c f g = record {
-  more = f.more ++ g.more;
-  parts = sym (append_assoc a f.more g.more) ∙ ap (λ (t : List Report). t ++ g.more) f.parts ∙ g.parts;
-}
 
 one-more : (x : Happening) (r : Run) → Begins (reports r) (reports (x ∷ r))
 one-more x r =
@@ -63,16 +54,10 @@ pub shown-begins : (w : World) (event : Event) (r : Result (List Fact) Halt)
 shown-begins w event (Ok facts) = one-more (happened event facts) w.run
 shown-begins w event (Err halt) = begins-self (reports w.run)
 
-pub then-begins : (text : List Report) (out : Course) (g : World → Course) → Begins text (reported out)
-    → ((v : World) → Begins (reports v.run) (reported (g v)))
-    → Begins text (reported (and_then out g))
-then-begins text (Goes w) g f h = begins-then text (reports w.run) (reported (g w)) f (h w)
-then-begins text (Stops w halt) g f h = f
-
 emitting-begins : (count : ℕ) (w : World) → Begins (reports w.run) (reported (emitting count w))
 emitting-begins zero w = begins-self (reports w.run)
 emitting-begins (suc count) w =
-    then-begins (reports w.run) (shown w events.Emit (answer w events.Emit))
+    then-begins reports (reports w.run) (shown w events.Emit (answer w events.Emit))
     (λ v. emitting count v) (shown-begins w events.Emit (answer w events.Emit))
     (λ v. emitting-begins count v)
 

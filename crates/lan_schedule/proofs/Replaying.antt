@@ -3,7 +3,6 @@ use Rattle.std.proofs.Common.{◌≡◌, ℕ, true, false, List, [], ◌∷◌, 
 use Rattle.std.proofs.Common.{◌∙◌, subst}
 use Rattle.std.specs.Prelude.{Result, Ok, Err}
 use Rattle.std.specs.Result.{IsErrAnd}
-use Rattle.std.proofs.lemmas.Result.{err_from_is_err_and}
 use Rattle.lan_core.specs.Run.{Run, facts_of}
 use Rattle.fact_tally.specs.Summary.{counts}
 use Rattle.trace_acts.specs.declared.choices.Choices.{Choices}
@@ -12,6 +11,7 @@ use Rattle.trace_acts.specs.declared.halt.Halt.TheVariants as halts
 use Rattle.lan_base.specs.declared.sink.Unwritten.{Unwritten}
 use Rattle.trace_acts.specs.Names.{names_of}
 use Rattle.trace_acts.specs.declared.halt.Halt.TheVariants.{Limit}
+use Rattle.trace_acts.proofs.Public.{handed-on as hand-on}
 use Rattle.lan_schedule.specs.declared.stage.Stage.{Stage}
 use Rattle.lan_schedule.specs.declared.commands.Replay.{Replay}
 use Rattle.lan_schedule.specs.declared.phase.Phase.{Phase as Stood}
@@ -22,13 +22,13 @@ use Rattle.lan_schedule.specs.Lines.{begin_line, at_line, performed, performed_a
 use Rattle.lan_schedule.specs.Reports.{Report}
 use Rattle.lan_schedule.specs.Sound.{IsTidy}
 use Rattle.lan_schedule.specs.Ends.{Moment, moment, Ends}
-use Rattle.lan_schedule.specs.Standing.{IsNamed, phase_of, AreBursts, AreFit, IsStaged, HasTally, StandsFor, Counts, Does}
-use Rattle.lan_schedule.specs.Stages.{StandsFor as StageStandsFor, Counts as StageCounts}
+use Rattle.lan_schedule.specs.Standing.{IsNamed, phase_of, AreBursts, AreFit, IsStaged, HasTally, StandsFor, Counts, Does, replays}
+use Rattle.lan_schedule.specs.Stages.{StandsFor as StageStandsFor, stages}
 use Rattle.lan_schedule.specs.inside.Comes.{Comes}
 use Rattle.lan_schedule.specs.inside.Staged.{Did}
 use Rattle.lan_schedule.proofs.Doing.{both-chances, told-none, ends-behind, ends-early, ends-memory}
 use Rattle.lan_schedule.specs.declared.phase.Phase.TheVariants as stood
-use Rattle.lan_schedule.specs.inside.Recording.{Mark, StandsSince, LeavesAt}
+use Rattle.lan_schedule.specs.inside.Recording.{Mark, stages_since}
 use Rattle.lan_schedule.proofs.Doing.{ends-seen}
 use Rattle.lan_schedule.specs.Races.{Excess, workers_of, limit_of}
 use Rattle.lan_schedule.specs.Acts.{begun_race, race, world_of, look}
@@ -59,7 +59,7 @@ module _ {K : Type 0} {Took : K → Report → K → Type 0} {Broke : K → Repo
     same-act f g old new r alike d = record {
       chances = d.chances;
       ends = λ w later is reached.
-          ends-behind Took Broke StandsFor (λ halt. Counts) Counts f g w w later old.outlet old.outlet
+          ends-behind Took Broke replays f g w w later old.outlet old.outlet
           new r (told-none w w old.outlet old.outlet refl refl) refl (alike w reached.stands)
           (d.ends w later is reached);
     }
@@ -70,7 +70,7 @@ module _ {K : Type 0} {Took : K → Report → K → Type 0} {Broke : K → Repo
     then-err f g old new e d = record {
       chances = d.chances;
       ends = λ w later is reached.
-          ends-early Took Broke StandsFor (λ halt. Counts) Counts f g w later old.outlet new e
+          ends-early Took Broke replays f g w later old.outlet new e
           (d.ends w later is reached);
     }
 
@@ -83,7 +83,7 @@ module _ {K : Type 0} {Took : K → Report → K → Type 0} {Broke : K → Repo
       ends = λ w later is reached.
           let first = d.ends w (e.chances ++ later)
           (both-chances w.kept.chances d.chances e.chances later is) reached in
-          ends-behind Took Broke StandsFor (λ halt. Counts) Counts (seq f g) g w first.0 later
+          ends-behind Took Broke replays (seq f g) g w first.0 later
           old.outlet mid.outlet new r first.3 first.5 (as-left f g w first.0 first.1)
           (e.ends first.0 later first.4 first.2);
     }
@@ -121,17 +121,14 @@ module _ {K : Type 0} {Took : K → Report → K → Type 0} {Broke : K → Repo
         → Does Took Broke act old new (Err halts.Memory)
     memory-does act old new counted same = record {
       chances = [];
-      ends = λ w later is reached. ends-memory Took Broke StandsFor (λ halt. Counts) Counts act w later old.outlet new
+      ends = λ w later is reached. ends-memory Took Broke replays act w later old.outlet new
           reached.tidy (counted w reached.stands) same;
     }
 
     -- an error that `?` hands on is the error
     pub handed-on : (act : Act) (old new : Moment Replay K) (e : Halt) (r : Result (Unit {0}) Halt)
         → Does Took Broke act old new (Err e) → IsErrAnd r (λ y. y ≡ e) → Does Took Broke act old new r
-    handed-on act old new e r d is =
-        let p = err_from_is_err_and r is in
-        subst (λ (r : Result (Unit {0}) Halt). Does Took Broke act old new r)
-        (sym (p.1 ∙ ap (λ (y : Halt). Err y) p.2)) d
+    handed-on act old new e r d is = hand-on (Does Took Broke) act old new e r d is
 
     -- an error that `?` hands on, where the error is want of memory
     pub memory-any : (act : Act) (old new : Moment Replay K) (r : Result (Unit {0}) Halt) {e : Halt}
@@ -149,7 +146,7 @@ module _ {K : Type 0} {Took : K → Report → K → Type 0} {Broke : K → Repo
     halted-does act old k x y e tells d = record {
       chances = d.chances;
       ends = λ w later is reached.
-          ends-seen Took Broke StandsFor (λ halt. Counts) Counts StandsFor (λ halt. Counts) Counts w later act old.outlet k x y (Err e)
+          ends-seen Took Broke replays replays w later act old.outlet k x y (Err e)
           (λ v goes e. absurd (cc e)) (λ v halt. tells v) tells (d.ends w later is reached);
     }
 
@@ -204,11 +201,10 @@ module _ {K : Type 0} (Took : K → Report → K → Type 0) (Broke : K → Repo
         → (r ≡ Ok tt → replay.halted ≡ None)
         → ((v : World) → perform act w ≡ Goes v → v.kept.phase ≡ phase_of replay.phase)
         → ((v : World) → perform act w ≡ Goes v → v.kept.phase ≡ Apart)
-        → Ends (StandsSince mark) (LeavesAt mark) StageCounts Took Broke w later act a (moment stage k) r
-        → Ends StandsFor (λ halt. Counts) Counts Took Broke w later act a (moment replay k) r
+        → Ends (stages_since mark) Took Broke w later act a (moment stage k) r
+        → Ends replays Took Broke w later act a (moment replay k) r
     staged-ends mark w later act a k stage replay r is goes phase apart h =
-        ends-seen Took Broke (StandsSince mark) (LeavesAt mark) StageCounts StandsFor
-        (λ halt. Counts) Counts w later act a k stage replay r
+        ends-seen Took Broke (stages_since mark) replays w later act a k stage replay r
         (λ v there e stands. record {
           goes = goes e;
           phase = phase v there;
@@ -268,7 +264,7 @@ module _ {K : Type 0} {Took : K → Report → K → Type 0} {Broke : K → Repo
           chances = d.chances;
           ends = λ w rest left reached.
               let o = opens w reached.stands reached.tidy in
-              ends-behind Took Broke StandsFor (λ halt. Counts) Counts act act w (begins w) rest old.outlet
+              ends-behind Took Broke replays act act w (begins w) rest old.outlet
               old.outlet new r (told-none w (begins w) old.outlet old.outlet (same_run w) refl)
               (ap (λ (p : Phase). is_racing p) (same_phase w)) o.3
               (staged-ends Took Broke nowhere (begins w) rest act old.outlet new.outlet later new.value
@@ -421,10 +417,9 @@ module _ {K : Type 0} {Took : K → Report → K → Type 0} {Broke : K → Repo
           let inner : StageStandsFor w stage =
           subst (λ (o : Option Stage). IsStaged w old.value o) is_old reached.stands.stage in
           let at : w.kept.phase ≡ Controlling bursts control = reached.stands.phase ∙ stood in
-          subst (λ (p : Phase). Ends StandsFor (λ halt. Counts) Counts Took Broke w rest
+          subst (λ (p : Phase). Ends replays Took Broke w rest
           (race_in p w) old.outlet new r) (sym at)
-          (ends-seen Took Broke StageStandsFor (λ halt. StageCounts) StageCounts StandsFor
-          (λ halt. Counts) Counts w rest (run_race bursts control w) old.outlet
+          (ends-seen Took Broke stages replays w rest (run_race bursts control w) old.outlet
           new.outlet later new.value r
           (λ v there e stands. record {
             goes = halted ∙ reached.stands.goes;

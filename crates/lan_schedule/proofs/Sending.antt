@@ -29,8 +29,8 @@ use Rattle.lan_schedule.specs.Sound.{IsTidy}
 use Rattle.lan_schedule.specs.Reports.{Report}
 use Rattle.lan_schedule.specs.Ends.{Moment, IsReached, Ends}
 use Rattle.lan_schedule.specs.inside.Comes.{Comes}
-use Rattle.lan_schedule.specs.Stages.{Says, StandsWith, StandsFor, Counts}
-use Rattle.lan_schedule.specs.inside.Recording.{Mark, StandsSince, LeavesAt, KeepSeats}
+use Rattle.lan_schedule.specs.Stages.{Says, StandsWith, StandsFor}
+use Rattle.lan_schedule.specs.inside.Recording.{Mark, KeepSeats, stages_since}
 use Rattle.lan_schedule.specs.inside.Set.{IsTaken}
 use Rattle.lan_schedule.specs.inside.Staged.{IsSetSince}
 use Rattle.lan_schedule.proofs.Recorded.{looked-apart}
@@ -146,7 +146,7 @@ module _ {K : Type 0} {Took : K → Report → K → Type 0} {Broke : K → Repo
         → w.kept.chances ≡ (decided mid.value.raced (events.Claim s n pn) ++ more) ++ later
         → IsReached (IsSetSince (events.Claim s n pn) mark) w mid.value
         → Some user ≡ user_at w.kept.users n → Comes (claim s n pn) w
-        → Ends (StandsSince mark) (LeavesAt mark) Counts Took Broke w later (claim s n pn) mid.outlet new r)
+        → Ends (stages_since mark) Took Broke w later (claim s n pn) mid.outlet new r)
         → Did Took Broke (seq (add_user user) (send s)) old new r
     send-does s n pn user more old mid new r outlet same line one_more users most cuts gives seats done =
         let event = events.Claim s n pn in record {
@@ -181,7 +181,7 @@ module _ {K : Type 0} {Took : K → Report → K → Type 0} {Broke : K → Repo
               let alike : IsAs (seq (add_user user) (send s)) w (claim s n pn) v =
               subst (λ (act : Act). IsAs (seq (add_user user) (send s)) w act v) (sym e)
               (as-left (add_user user) (send s) w v refl) in
-              ends-behind Took Broke (StandsSince mark) (LeavesAt mark) Counts
+              ends-behind Took Broke (stages_since mark)
               (seq (add_user user) (send s)) (claim s n pn) w v later
               old.outlet mid.outlet new r (told-none w v old.outlet mid.outlet refl outlet) refl alike
               (done mark v later left (record {
@@ -207,10 +207,10 @@ module _ {K : Type 0} {Took : K → Report → K → Type 0} {Broke : K → Repo
         → w.kept.chances ≡ (decided mid.value.raced (events.Claim s n pn) ++ []) ++ later
         → IsReached (IsSetSince (events.Claim s n pn) mark) w mid.value
         → Some user ≡ user_at w.kept.users n → Comes (claim s n pn) w
-        → Ends (StandsSince mark) (LeavesAt mark) Counts Took Broke w later (claim s n pn) mid.outlet new (Err e)
+        → Ends (stages_since mark) Took Broke w later (claim s n pn) mid.outlet new (Err e)
     claim-err s n pn user mid new e h mark w later left reached named comes =
         let event = events.Claim s n pn in
-        ends-early Took Broke (StandsSince mark) (LeavesAt mark) Counts (happen event)
+        ends-early Took Broke (stages_since mark) (happen event)
         (unless (pn == 0) (happen events.Emit)) w later mid.outlet new e
         (h.ends mark w later
         (left ∙ ap (λ (c : List Chance). c ++ later) (append-nil (decided mid.value.raced event)))
@@ -225,7 +225,7 @@ module _ {K : Type 0} {Took : K → Report → K → Type 0} {Broke : K → Repo
         → w.kept.chances ≡ (decided mid.value.raced (events.Claim s n pn) ++ d.chances) ++ later
         → IsReached (IsSetSince (events.Claim s n pn) mark) w mid.value
         → Some user ≡ user_at w.kept.users n → Comes (claim s n pn) w
-        → Ends (StandsSince mark) (LeavesAt mark) Counts Took Broke w later (claim s n pn) mid.outlet new r
+        → Ends (stages_since mark) Took Broke w later (claim s n pn) mid.outlet new r
     claim-ok s n pn user mid now new r h d mark w later left reached named comes =
         let event = events.Claim s n pn in
         let first = h.ends mark w (d.chances ++ later)
@@ -235,7 +235,7 @@ module _ {K : Type 0} {Took : K → Report → K → Type 0} {Broke : K → Repo
         let comes_later : Comes emit first.0 =
         going (perform (happen event) w) first.0 (λ v. IsTidy v → Comes emit v) first.1 comes.1
         first.2.tidy in
-        ends-behind Took Broke (StandsSince mark) (LeavesAt mark) Counts (claim s n pn) emit w first.0 later
+        ends-behind Took Broke (stages_since mark) (claim s n pn) emit w first.0 later
         mid.outlet now.outlet new r first.3 first.5 (as-left (happen event) emit w first.0 first.1)
         (d.ends mark first.0 later first.4 first.2 comes_later)
 

@@ -18,10 +18,10 @@ use Rattle.lan_schedule.specs.Acts.{Act, BeginsAt, Goes, Stops, begun_race, is_s
 use Rattle.lan_schedule.specs.Reports.{AreTold, Report, reports}
 use Rattle.lan_schedule.specs.Ends.{Ends, WasBroken, WasTold, WasToldTo, moment}
 use Rattle.lan_schedule.specs.Sound.{IsTidy}
-use Rattle.lan_schedule.specs.Stages.{Counts, Says, StandsFor}
+use Rattle.lan_schedule.specs.Stages.{Says, StandsFor}
 use Rattle.lan_schedule.specs.inside.Beside.{mark_of}
-use Rattle.lan_schedule.specs.inside.Recording.{HasLooked, HasRecorded, HasStopped, IsRecorded}
-use Rattle.lan_schedule.specs.inside.Recording.{LeavesAt, LeavesBy, StandsSince, steps_of}
+use Rattle.lan_schedule.specs.inside.Recording.{HasLooked, HasRecorded, HasStopped, IsRecorded, stages_since}
+use Rattle.lan_schedule.specs.inside.Recording.{LeavesBy, StandsSince, steps_of}
 use Rattle.lan_schedule.specs.inside.Weaves.{KeepsNoMore, KeepsReport}
 
 -- ---- what was kept of reports
@@ -149,7 +149,7 @@ module _ (w : World) (begun moved : Stage) (steps : List Step) (kept : List (Lis
   leaves-so false v tidy racing leaves told left = goes-on v tidy racing leaves told left
 
   module _ (workers : List Worker) (act : Act) where
-    pub steered-ok : Ends (StandsSince (mark_of w begun)) (LeavesAt (mark_of w begun)) Counts
+    pub steered-ok : Ends (stages_since (mark_of w begun))
         KeepsReport KeepsNoMore (begun_race workers w) later act [] (moment moved kept) (Ok tt)
         → (v : World) × (perform act (begun_race workers w) ≡ Goes v) × IsSteered w begun moved steps kept later false v
     steered-ok h = (
@@ -163,7 +163,7 @@ module _ (w : World) (begun moved : Stage) (steps : List Step) (kept : List (Lis
     )
 
     pub steered-err : (halt : Halt) → (halt ≡ halts.Memory → ⊥)
-        → Ends (StandsSince (mark_of w begun)) (LeavesAt (mark_of w begun)) Counts
+        → Ends (stages_since (mark_of w begun))
         KeepsReport KeepsNoMore (begun_race workers w) later act [] (moment moved kept) (Err halt)
         → (v : World) × (perform act (begun_race workers w) ≡ Stops v halt)
         × IsSteered w begun moved steps kept later (is_stop halt) v

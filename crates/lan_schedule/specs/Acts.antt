@@ -1,5 +1,5 @@
 -- What can be performed, and what performing it leaves (this profile's own rule).
-use Rattle.std.specs.Prelude.{◌≡◌, ◌⊎◌, ℕ, ◌+◌, Bool, if◌then◌else◌, zero, suc, List, [], ◌∷◌, ◌++◌, Result}
+use Rattle.std.specs.Prelude.{ℕ, ◌+◌, Bool, if◌then◌else◌, zero, suc, List, [], ◌∷◌, ◌++◌, Result}
 use Rattle.std.specs.Prelude.{Ok, Err, ◌-◌, true, false, map, length, take, reverse}
 use Rattle.std.specs.Prelude.{slice_get, option_map, unwrap_or}
 use Rattle.lan_core.specs.declared.event.Event.{Event}
@@ -11,8 +11,11 @@ use Rattle.lan_core.specs.Lives.{transmitting_at}
 use Rattle.lan_core.specs.Expected.{claim_fact}
 use Rattle.trace_acts.specs.declared.halt.Halt.{Halt}
 use Rattle.trace_acts.specs.declared.halt.Halt.TheVariants as halts
-use Rattle.trace_acts.specs.declared.halt.Kind.{Kind}
 use Rattle.trace_acts.specs.declared.halt.Kind.TheVariants.{FrameUnknown}
+use Rattle.trace_acts.specs.Acts as acts
+use Rattle.trace_acts.specs.Ways as ways
+pub use Rattle.trace_acts.specs.Acts.{nothing, refuse, exceed, happen, change, seq, look, race}
+pub use Rattle.trace_acts.specs.Acts.{Goes, Stops, and_then, each, span, times, unless, world_of}
 use Rattle.lan_schedule.specs.Races.{Apart, Racing, Chance, Worker, Claimed, Excess, limit_of, claims_in}
 use Rattle.lan_schedule.specs.Races.{count_numbered}
 use Rattle.lan_schedule.specs.Races.{woven_in, behind_woven}
@@ -20,23 +23,9 @@ use Rattle.lan_schedule.specs.World.{World, Kept, beginning, settings, puts}
 use Rattle.lan_schedule.specs.Numbers.{chances_after}
 use Rattle.lan_schedule.specs.Answers.{answer, taken_by}
 
--- nothing; the line is refused; it asks for more than a limit leaves; an event happens; what is kept
--- changes; one act and then another; an act that depends on the world it begins in; or an act beside
--- which workers claim packet numbers
-pub data Act : Type 0 where
-  nothing : Act
-  refuse : Kind → Act
-  exceed : Excess → Act
-  happen : Event → Act
-  change : (Kept → Kept) → Act
-  seq : Act → Act → Act
-  look : (World → Act) → Act
-  race : List Worker → Act → Act
-
--- what an act leaves: the world, also where it stopped before its end
-pub data Course : Type 0 where
-  Goes : World → Course
-  Stops : World → Halt → Course
+-- what an act leaves
+abbrev pub Course : Type 0
+Course = acts.Course World
 
 -- what is kept after an event that showed these facts
 abbrev pub kept_after : World → Event → List Fact → Kept
@@ -54,10 +43,6 @@ world_after w event facts =
 abbrev pub shown : World → Event → Result (List Fact) Halt → Course
 shown w event (Ok facts) = Goes (world_after w event facts)
 shown w event (Err halt) = Stops w halt
-
-abbrev pub and_then : Course → (World → Course) → Course
-and_then (Goes w) later = later w
-and_then (Stops w halt) later = Stops w halt
 
 -- ---- races
 
@@ -127,10 +112,6 @@ abbrev pub is_stop : Halt → Bool
 is_stop (halts.Trace line FrameUnknown) = false
 is_stop _ = true
 
-abbrev pub world_of : Course → World
-world_of (Goes w) = w
-world_of (Stops w halt) = w
-
 abbrev pub ends_with : Halt → Course → Course
 ends_with halt out = Stops (world_of out) halt
 
@@ -144,50 +125,30 @@ beside workers w (Stops v halt) =
 
 -- ---- acts
 
+-- what can be performed: a race is an act beside which workers claim packet numbers
+abbrev pub Act : Type 0
+Act = acts.Act Run Kept Event Excess (List Worker)
+
+-- how acts are performed
+abbrev pub rules : acts.Rules Run Kept Event Excess (List Worker)
+rules = record {
+  line = λ kept. kept.line;
+  limit = limit_of;
+  happens = λ w event. shown w event (answer w event);
+  begins = begun_race;
+  beside = beside;
+}
+
 abbrev pub perform : Act → World → Course
-perform nothing w = Goes w
-perform (refuse kind) w = Stops w (halts.Trace w.kept.line kind)
-perform (exceed excess) w = Stops w (halts.Limit (limit_of excess))
-perform (happen event) w = shown w event (answer w event)
-perform (change f) w = Goes (record w { kept = f w.kept })
-perform (seq first then_) w = and_then (perform first w) (λ v. perform then_ v)
-perform (look act) w = perform (act w) w
-perform (race workers control) w = beside workers w (perform control (begun_race workers w))
+perform act w = acts.perform rules act w
 
--- On the way of an act from a world: where it begins, where it comes to, or on the way of a part of it.
--- An event and a race have nothing between both.
+-- a race has nothing between where it begins and where it comes to
 abbrev pub IsOnWay : Act → World → World → Type 0
-IsOnWay (seq first then_) w =
-    λ v. IsOnWay first w v ⊎ ((u : World) × (perform first w ≡ Goes u) × IsOnWay then_ u v)
-IsOnWay (look act) w = IsOnWay (act w) w
-IsOnWay act w = λ v. (v ≡ w) ⊎ (v ≡ world_of (perform act w))
+IsOnWay act w = ways.IsOnWay rules act w
 
--- A part of an act begins in a world, where the act does in another. An event and a race have no parts.
+-- nor has it parts
 abbrev pub BeginsAt : Act → World → World → Type 0
-BeginsAt (seq first then_) w =
-    λ v. BeginsAt first w v ⊎ ((u : World) × (perform first w ≡ Goes u) × BeginsAt then_ u v)
-BeginsAt (look act) w = BeginsAt (act w) w
-BeginsAt act w = λ v. v ≡ w
-
--- ---- many acts
-
--- one for each item
-abbrev pub each : {A : Type 0} → (A → Act) → List A → Act
-each act [] = nothing
-each act (x ∷ xs) = seq (act x) (each act xs)
-
--- one for each of so many numbers, from the first on
-abbrev pub span : (ℕ → Act) → ℕ → ℕ → Act
-span act first zero = nothing
-span act first (suc count) = seq (act first) (span act (suc first) count)
-
--- one act, so many times
-abbrev pub times : ℕ → Act → Act
-times count act = span (λ _. act) 0 count
-
--- skipped where the test holds
-abbrev pub unless : Bool → Act → Act
-unless skipped act = if skipped then nothing else act
+BeginsAt act w = ways.BeginsAt rules act w
 
 -- ---- from the beginning on
 

@@ -1,36 +1,32 @@
 -- What a call did of an act: what was told, what it left, and how it ended (this profile's own
--- rule). `Stands` and `Counts` say of each kind of value for which world it stands, and of which
--- world it has the tally; `Took` and `Broke` what a recorder does.
+-- rule). `Took` and `Broke` say what a recorder does.
 use Rattle.std.specs.Prelude.{◌≡◌, ◌⊎◌, ◌≤◌, false, List, [], ◌∷◌, ◌++◌, length, Result, Ok, Err}
 use Rattle.trace_acts.specs.declared.halt.Halt.{Halt}
 use Rattle.trace_acts.specs.declared.halt.Halt.TheVariants as halts
 use Rattle.lan_base.specs.declared.sink.Unwritten.{Unwritten}
 use Rattle.trace_acts.specs.Halts.{halt_of_unwritten}
+use Rattle.trace_acts.specs.Tellings as tellings
+pub use Rattle.trace_acts.specs.Tellings.{Begins, Moment, moment}
 use Rattle.lan_schedule.specs.Races.{Chance, behind_numbers}
 use Rattle.lan_schedule.specs.Sound.{IsTidy}
 use Rattle.lan_schedule.specs.World.{World, is_racing}
-use Rattle.lan_schedule.specs.Acts.{Act, BeginsAt, Course, Goes, Stops, world_of, perform, IsOnWay}
+use Rattle.lan_schedule.specs.Acts.{Act, BeginsAt, Course, Goes, Stops, perform, IsOnWay}
 use Rattle.lan_schedule.specs.Reports.{Report, reports, AreTold}
 
--- a value that performs acts, and what is told, at a moment of a call
-pub record Moment (R K : Type 0) : Type 0 where
-  pub value : R
-  pub outlet : K
-
-abbrev pub moment : {R K : Type 0} → R → K → Moment R K
-moment value outlet = record { value = value; outlet = outlet }
+-- What is said of a kind of value: for which world it stands, what a halt leaves of it in a world, and of
+-- which world it has the tally.
+pub record Standing (R : Type 0) : Type 1 where
+  pub Stands : World → R → Type 0
+  pub Leaves : Halt → World → R → Type 0
+  pub Counts : World → R → Type 0
 
 -- a value stands for a tidy world
-pub record IsReached {R : Type 0} (Stands : World → R → Type 0) (w : World) (now : R) : Type 0 where
-  pub stands : Stands w now
-  pub tidy : IsTidy w
+abbrev pub IsReached : {R : Type 0} → (World → R → Type 0) → World → R → Type 0
+IsReached Stands w now = tellings.IsReached IsTidy Stands w now
 
 -- what events showed from one world up to another was told
-pub record WasTold {K : Type 0} (Took : K → Report → K → Type 0) (w v : World) (old new : K) :
-    Type 0 where
-  pub told : List Report
-  pub since : reports v.run ≡ reports w.run ++ told
-  pub by_one : AreTold Took old told new
+abbrev pub WasTold : {K : Type 0} → (K → Report → K → Type 0) → World → World → K → K → Type 0
+WasTold Took w v old new = tellings.WasTold reports Took w v old new
 
 -- From one world up to another all was told up to the report at which the recorder broke. It is that
 -- of the last event: only a race happens as a whole before it is told.
@@ -61,14 +57,9 @@ pub record IsStopped {R K : Type 0} (Leaves : Halt → World → R → Type 0)
   pub left : behind_numbers world.kept.chances ≡ behind_numbers later
   pub same : is_racing world.kept.phase ≡ is_racing w.kept.phase
 
--- reports begin with others
-pub record Begins (front all : List Report) : Type 0 where
-  pub more : List Report
-  pub parts : front ++ more ≡ all
-
 -- all that a course reports, also before an act
 abbrev pub reported : Course → List Report
-reported out = reports (world_of out).run
+reported out = tellings.reported reports out
 
 -- All that events showed up to a world was told in which a part of the act begins, and nothing of the one
 -- event behind it, if another world has one.
@@ -99,13 +90,13 @@ pub record WasCut {R K : Type 0} (Counts : World → R → Type 0) (Took : K →
 -- How a call ends that begins in a world, and would perform this act: in the midst of a race
 -- where it began there, and with the chances that come behind it. Its value then stands for the
 -- world; where it ended early it has its tally, and at a stop what the halt leaves.
-abbrev pub Ends : {R K : Type 0} → (World → R → Type 0) → (Halt → World → R → Type 0)
-    → (World → R → Type 0) → (K → Report → K → Type 0) → (K → Report → K → Unwritten → Type 0) → World → List Chance → Act
-    → K → Moment R K → Result (Unit {0}) Halt → Type 0
-Ends Stands Leaves Counts Took Broke w later act old new (Ok done) =
-    (v : World) × (perform act w ≡ Goes v) × IsReached Stands v new.value
+abbrev pub Ends : {R K : Type 0} → Standing R → (K → Report → K → Type 0)
+    → (K → Report → K → Unwritten → Type 0) → World → List Chance → Act → K → Moment R K
+    → Result (Unit {0}) Halt → Type 0
+Ends standing Took Broke w later act old new (Ok done) =
+    (v : World) × (perform act w ≡ Goes v) × IsReached standing.Stands v new.value
     × WasTold Took w v old new.outlet × (v.kept.chances ≡ later)
     × (is_racing v.kept.phase ≡ is_racing w.kept.phase)
-Ends Stands Leaves Counts Took Broke w later act old new (Err halt) =
-    IsStopped Leaves Took w later (perform act w) old new halt
-    ⊎ WasCut Counts Took Broke w (IsOnWay act w) (BeginsAt act w) old new halt
+Ends standing Took Broke w later act old new (Err halt) =
+    IsStopped standing.Leaves Took w later (perform act w) old new halt
+    ⊎ WasCut standing.Counts Took Broke w (IsOnWay act w) (BeginsAt act w) old new halt

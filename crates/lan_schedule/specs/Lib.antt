@@ -1,14 +1,13 @@
 -- What a reader reads first. A *world* is what the lines so far have made: a *run* of the group and
--- what is kept beside it. A line performs an *act*: nothing, a refusal, an *event* of the group, a
--- change of what is kept, one act and then another, or what a look at the world asks for. An event is
--- a start, a tick, a delivery, a restart, a claim, an emission or an injection; it shows *facts*, by
--- which the run grows, and they are reported before the next one happens. What performing an act
--- leaves is a *course*: it goes on from a world, or stops in one and says why. What the schedule of
--- threads decides is a list of *chances* in the world, taken from its head. A *moment* of a call is
--- the value that performs, and the outlet that is told the reports. What lines choose and name, the
--- draws and the links stand in `trace_acts`. The files stand in this order: what races are, what lines
--- have made, what can be performed, which line is refused, what a line performs, what is sound, what
--- is told, what a call did of an act, what slot words show, and what a race is woven of.
+-- what is kept beside it. A line performs an *act* of `trace_acts`. An *event* is a start, a tick,
+-- a delivery, a restart, a claim, an emission or an injection; it shows *facts*, by which the run
+-- grows, and they are reported before the next one happens. A *course* goes on from a world, or
+-- stops in one and says why. What the schedule of threads decides is a list of *chances* in the
+-- world, taken from its head. A *moment* of a call is the value that performs, and the outlet that
+-- is told the reports. What lines choose and name, the draws and the links stand in `trace_acts`.
+-- The files stand in this order: what races are, what lines have made, what can be performed, which
+-- line is refused, what a line performs, what is sound, what is told, what a call did of an act,
+-- what slot words show, and what a race is woven of.
 pub mod Races
 pub mod World
 pub mod Numbers

@@ -14,10 +14,10 @@ use Rattle.trace_text.specs.declared.fault.TextFault.{TextFault}
 use Rattle.trace_text.specs.declared.line.Line.{Line}
 use Rattle.trace_text.specs.declared.line.Line.TheVariants as lines
 use Rattle.trace_text.specs.Reading.{line_in}
-use Rattle.trace_acts.specs.declared.halt.Kind.{Kind}
 use Rattle.trace_acts.specs.declared.halt.Kind.TheVariants.{NoEnd}
 use Rattle.trace_acts.specs.declared.choices.Choices.{Choices}
 use Rattle.trace_acts.specs.Settings.{lag_of}
+pub use Rattle.trace_acts.specs.Acts.{line_after, unless_refused}
 use Rattle.trace_acts.specs.Choosing.{chosen_by}
 use Rattle.trace_acts.specs.Links.{is_cut, with_link, without_link}
 use Rattle.lan_schedule.specs.declared.frames.Put.{Put}
@@ -185,11 +185,6 @@ deed (lines.Inject name octets) w = happen (Inject (place w name) octets)
 deed lines.Race w = enter (Bursting [])
 deed line w = choose (chosen_by line)
 
--- a refused line performs nothing
-abbrev pub unless_refused : Option Kind → Act → Act
-unless_refused None act = act
-unless_refused (Some kind) act = refuse kind
-
 -- the line of this number begins
 abbrev pub begin_line : ℕ → Act
 begin_line number = change (λ kept. record kept { line = number })
@@ -250,11 +245,6 @@ numbered number line = seq (begin_line number) (act_of line)
 abbrev pub deed_read : Result (Option Line) TextFault → World → Act
 deed_read (Ok (Some line)) w = deed_at line w w.kept.phase
 deed_read _ w = nothing
-
--- the number of the line behind that of a number; the greatest number of 32 bits is that of all lines
--- from there on
-abbrev pub line_after : ℕ → ℕ
-line_after line = min (line + 1) 4294967295
 
 -- what a text without its line ending performs, as the next line
 abbrev pub performed : List ℕ → Act

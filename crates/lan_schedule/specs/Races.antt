@@ -8,6 +8,7 @@ use Rattle.gcm_frames.specs.Protected.{protection_octets}
 use Rattle.lan_core.specs.declared.stop.Which.{Which}
 use Rattle.lan_core.specs.declared.stop.Which.TheVariants.{Frames, Octets}
 use Rattle.trace_text.specs.declared.line.Line.{Line}
+pub use Rattle.trace_acts.specs.Settings.{most_users}
 
 -- a burst: a station, how many workers it has there, how many frames they send in all, and of which
 -- user data
@@ -39,10 +40,6 @@ workers_at s bursts = sum (map (λ b. b.workers) (filter (λ b. b.station == s) 
 -- a frame has as many octets more than its body as protection adds
 abbrev pub frame_octets : UserFrame → ℕ
 frame_octets user = length user.body + protection_octets
-
--- the greatest count of user frames that lines name: each has a number
-abbrev pub most_users : ℕ
-most_users = 4294967294
 
 -- the greatest count of claims: a race may lose 16 packet numbers of a key
 abbrev pub most_claimed : ℕ

@@ -1,8 +1,9 @@
 -- What is told of what events show.
-use Rattle.std.specs.Prelude.{◌≡◌, ℕ, List, [], ◌∷◌, ◌++◌}
+use Rattle.std.specs.Prelude.{ℕ, List, [], ◌∷◌, ◌++◌}
 use Rattle.lan_core.specs.declared.fact.Fact.{Fact}
 use Rattle.lan_core.specs.Run.{Run}
 use Rattle.trace_acts.specs.Names.{names_of}
+pub use Rattle.trace_acts.specs.Tellings.{AreTold}
 
 -- what is told of an event: the names that the stations have by then, and its facts
 pub record Report : Type 0 where
@@ -13,9 +14,3 @@ pub record Report : Type 0 where
 abbrev pub reports : Run → List Report
 reports [] = []
 reports (x ∷ r) = reports r ++ record { names = names_of (x ∷ r); facts = x.facts } ∷ []
-
--- reports were told, one after the other
-abbrev pub AreTold : {K : Type 0} → (K → Report → K → Type 0) → K → List Report → K → Type 0
-AreTold Took old [] new = old ≡ new
-AreTold {K = K} Took old (report ∷ later) new =
-    (now : K) × Took old report now × AreTold Took now later new

@@ -12,6 +12,7 @@ use Rattle.trace_acts.specs.Supply.{supply_nth}
 use Rattle.lan_schedule.specs.declared.stage.Stage.{Stage}
 use Rattle.lan_schedule.specs.World.{World, settings, flow_of, is_racing}
 use Rattle.lan_schedule.specs.Answers.{supply}
+use Rattle.lan_schedule.specs.Ends.{Standing}
 
 -- What the words of all stations say of a run, where a race was begun or not, and where control's
 -- lines are performed beside workers or not: before the first race they tell it, in the midst of one
@@ -49,3 +50,7 @@ StandsFor w stage = StandsWith Says w stage
 -- its tally is that of the world's run, also where an event or a line of it ended early
 abbrev pub Counts : World → Stage → Type 0
 Counts w stage = stage.tally ≡ counts (facts_of w.run)
+
+-- what is said of a group at work
+abbrev pub stages : Standing Stage
+stages = record { Stands = StandsFor; Leaves = λ halt. Counts; Counts = Counts }

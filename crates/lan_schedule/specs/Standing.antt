@@ -6,9 +6,8 @@ use Rattle.lan_core.specs.Run.{facts_of}
 use Rattle.lan_core.specs.Types.{IsUserFrame}
 use Rattle.trace_text.specs.Writing.{IsInForm}
 use Rattle.fact_tally.specs.Summary.{counts}
-use Rattle.lan_base.specs.Ranges.{IsCkn}
-use Rattle.trace_acts.specs.declared.choices.Keyed.{Keyed}
 use Rattle.trace_acts.specs.declared.halt.Halt.{Halt}
+pub use Rattle.trace_acts.specs.Settings.{IsNamed}
 use Rattle.lan_base.specs.declared.sink.Unwritten.{Unwritten}
 use Rattle.trace_acts.specs.Names.{names_of}
 use Rattle.lan_schedule.specs.declared.stage.Stage.{Stage}
@@ -23,7 +22,7 @@ use Rattle.trace_text.specs.Limits.{most_workers}
 use Rattle.lan_schedule.specs.Kinds.{is_control, wrong_name}
 use Rattle.lan_schedule.specs.Lines.{at_line, close, line_after}
 use Rattle.lan_schedule.specs.Reports.{Report}
-use Rattle.lan_schedule.specs.Ends.{Moment, IsReached, Ends}
+use Rattle.lan_schedule.specs.Ends.{Moment, IsReached, Ends, Standing}
 use Rattle.lan_schedule.specs.Stages.{StandsFor as StageStandsFor, Counts as StageCounts}
 
 -- where the lines of a replay stand
@@ -55,11 +54,6 @@ AreFit names (Controlling bursts control) =
     AreBursts names bursts × AllByRecursion (IsControl names) control
 AreFit names _ = Unit {0}
 
--- a group that was chosen has a name that is what it may be
-abbrev pub IsNamed : Option Keyed → Type 0
-IsNamed None = Unit {0}
-IsNamed (Some group) = IsCkn group.ckn
-
 -- before the first station nothing happened, and the tally is that of no facts; from then on the
 -- group at work stands for the world
 abbrev pub IsStaged : World → Replay → Option Stage → Type 0
@@ -87,6 +81,10 @@ HasTally w replay (Some stage) = StageCounts w stage
 abbrev pub Counts : World → Replay → Type 0
 Counts w replay = HasTally w replay replay.stage
 
+-- what is said of a replay
+abbrev pub replays : Standing Replay
+replays = record { Stands = StandsFor; Leaves = λ halt. Counts; Counts = Counts }
+
 -- A call did an act, in each world for which its replay may stand, and whose chances begin with
 -- those that were decided in the call. What it told is told behind whatever was told before.
 pub record Does {K : Type 0} (Took : K → Report → K → Type 0)
@@ -95,7 +93,7 @@ pub record Does {K : Type 0} (Took : K → Report → K → Type 0)
   pub chances : List Chance
   pub ends : (w : World) (later : List Chance) → w.kept.chances ≡ chances ++ later
       → IsReached StandsFor w old.value
-      → Ends StandsFor (λ halt. Counts) Counts Took Broke w later act old.outlet new
+      → Ends replays Took Broke w later act old.outlet new
       result
 
 -- the end of a trace, whose lines made this world: nothing more comes, or it stops there

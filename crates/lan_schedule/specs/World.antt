@@ -11,6 +11,7 @@ use Rattle.lan_core.specs.declared.fact.Fact.TheVariants as facts
 use Rattle.lan_core.specs.declared.settings.Settings.{Settings}
 use Rattle.lan_core.specs.Run.{Run, stations}
 use Rattle.lan_core.specs.Ledgers.{air}
+use Rattle.trace_acts.specs.Acts as acts
 use Rattle.trace_acts.specs.declared.choices.Choices.{Choices}
 use Rattle.trace_acts.specs.declared.links.Link.{Link}
 use Rattle.trace_acts.specs.Settings.{no_choice, settings_of}
@@ -37,9 +38,8 @@ pub record Kept : Type 0 where
   pub races : List Raced
   pub chances : List Chance
 
-pub record World : Type 0 where
-  pub run : Run
-  pub kept : Kept
+abbrev pub World : Type 0
+World = acts.World Run Kept
 
 -- no line was performed, and this is what chance will decide
 abbrev pub nothing_kept : List Chance → Kept

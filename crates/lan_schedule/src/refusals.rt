@@ -14,7 +14,7 @@ ghost use Rattle.lan_schedule.specs.Stages.{StandsFor};
 
 use crate::stage::Stage;
 use lan_base::{Name, Sci};
-use trace_acts::{Kind, is_elsewhere};
+use trace_acts::{Kind, is_elsewhere, is_named, unknown};
 use trace_text::Line;
 
 impl Stage {
@@ -88,7 +88,7 @@ impl Stage {
         ensures { result ≡ or_else (where_ (is_in name.now self.now.lan.names) kinds.NameTaken)
             (where_ (is_in sci.now.0 (map (λ sci. sci.0) (scis_in self.now.lan))) kinds.SciTaken) }
     {
-        if self.is_named(name) {
+        if is_named(self.lan.names(), name) {
             Some(Kind::NameTaken)
         } else if self.lan.has_sci(sci) {
             Some(Kind::SciTaken)
@@ -101,11 +101,7 @@ impl Stage {
     fn unknown(&self, name: &Name) -> Option<Kind>
         ensures { result ≡ unknown name.now self.now.lan.names }
     {
-        if self.is_named(name) {
-            None
-        } else {
-            Some(Kind::NameUnknown)
-        }
+        unknown(self.lan.names(), name)
     }
 
     /// Whether the air has no frame of this number.
@@ -119,17 +115,7 @@ impl Stage {
         }
     }
 
-    // ---- names and frames
-
-    /// Whether a station has this name.
-    fn is_named(&self, name: &Name) -> bool
-        ensures { result ≡ is_in name.now self.now.lan.names }
-    {
-        self.lan
-            .names()
-            .iter()
-            .any(|other| name.octets() == other.octets())
-    }
+    // ---- frames
 
     /// Whether the air has a frame of this number.
     fn has_frame(&self, number: u32) -> bool

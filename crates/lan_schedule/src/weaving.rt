@@ -5,7 +5,8 @@ ghost use Rattle.lan_core.specs.declared.fact.Fact.{Fact};
 ghost use Rattle.fact_tally.specs.Summary.{counts};
 ghost use Rattle.lan_schedule.specs.Reports.{AreTold, Report};
 ghost use Rattle.lan_schedule.specs.inside.Weaves.{shown_in, shown_of, kept_behind, frames_behind};
-ghost use Rattle.lan_schedule.specs.inside.Weaves.{claim_shown, facts_in, WereToldUpTo};
+ghost use Rattle.trace_acts.specs.Tellings.{WereToldUpTo};
+ghost use Rattle.lan_schedule.specs.inside.Weaves.{claim_shown, facts_in};
 
 use crate::keeping::Kept;
 use crate::recorder::Preparing;

@@ -8,4 +8,5 @@ mod Acting
 mod Telling
 mod Coming
 mod Showing
+mod OnWay
 pub mod Public

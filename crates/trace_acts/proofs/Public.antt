@@ -7,6 +7,8 @@ pub use Rattle.trace_acts.proofs.Coming.{comes-each, comes-span, comes-unless, g
 pub use Rattle.trace_acts.proofs.Coming.{halfway, is-going, Lasts, later, world-in}
 pub use Rattle.trace_acts.proofs.Drawing.{bytes-all, chosen-draws, counted-draws, taken-draws}
 pub use Rattle.trace_acts.proofs.Finding.{find-gather, find-more}
+pub use Rattle.trace_acts.proofs.OnWay.{as-append, as-left, begins-start, IsAs, way-begins, way-begun}
+pub use Rattle.trace_acts.proofs.OnWay.{way-front, way-start}
 pub use Rattle.trace_acts.proofs.Placing.{any-map, place-there, place-within, taken-none, taken-sci}
 pub use Rattle.trace_acts.proofs.Refusing.{allowed-then, not-false, or-none, station-later}
 pub use Rattle.trace_acts.proofs.Refusing.{unbegun-by, where-none}

@@ -11,5 +11,6 @@ pub mod Kinds
 pub mod Places
 pub mod Halts
 pub mod Acts
+pub mod Ways
 pub mod Tellings
 pub mod inside

@@ -39,7 +39,7 @@ use Rattle.lan_schedule.specs.Lines.{control_act, run_race}
 use Rattle.lan_schedule.specs.Reports.{Report, reports}
 use Rattle.lan_schedule.specs.Ends.{Moment, moment, IsReached, Ends}
 use Rattle.lan_schedule.specs.Sound.{IsTidy}
-use Rattle.lan_schedule.specs.Stages.{StandsFor, Counts}
+use Rattle.lan_schedule.specs.Stages.{StandsFor, Counts, stages}
 use Rattle.lan_schedule.specs.Woven.{HadMemory, WasBegun, WasWoven, worker_of}
 use Rattle.lan_schedule.specs.Standing.{AreBursts}
 use Rattle.trace_acts.specs.Names.{names_of}
@@ -253,7 +253,7 @@ pub record EndsRace {K : Type 0} (Took : K → Report → K → Type 0)
       (has : HasRun w workers lines old.value ran)
       → w.kept.chances ≡ has.beside.did.chances ++ (chances ++ later)
       → before.line ≡ w.kept.line → before.tally ≡ counts (facts_of w.run)
-      → Ends StandsFor (λ halt. Counts) Counts Took Broke w later
+      → Ends stages Took Broke w later
       (race workers (control_act lines)) old.outlet new result
   pub woven : (w : World) (later : List Chance) (workers : List Worker) (lines : List Numbered)
       (has : HasRun w workers lines old.value ran)
@@ -273,7 +273,7 @@ pub record DidRace {K : Type 0} (Took : K → Report → K → Type 0)
   pub ends : (w : World) (later : List Chance) → w.kept.chances ≡ chances ++ later
       → IsReached StandsFor w old.value → is_racing w.kept.phase ≡ false
       → AreBursts (names_of w.run) bursts → Comes (run_race bursts control w) w
-      → Ends StandsFor (λ halt. Counts) Counts Took Broke w later
+      → Ends stages Took Broke w later
       (run_race bursts control w) old.outlet new result
   pub woven : (w : World) (later : List Chance) → w.kept.chances ≡ chances ++ later
       → IsReached StandsFor w old.value → is_racing w.kept.phase ≡ false

@@ -21,6 +21,7 @@ use Rattle.lan_schedule.specs.declared.stage.Stage.{Stage}
 use Rattle.lan_schedule.specs.World.{World, is_racing, settings}
 use Rattle.lan_schedule.specs.Acts.{is_stop}
 use Rattle.lan_schedule.specs.Stages.{StandsFor, Counts}
+use Rattle.lan_schedule.specs.Ends.{Standing}
 
 -- ---- one event
 
@@ -100,6 +101,10 @@ LeavesBy false mark w stage = StandsSince mark w stage
 -- what a group at work is where an act stopped in a world: a line that was refused leaves it whole
 abbrev pub LeavesAt : Mark → Halt → World → Stage → Type 0
 LeavesAt mark halt w stage = LeavesBy (is_stop halt) mark w stage
+
+-- what is said of a group at work that keeps what was performed since a mark
+abbrev pub stages_since : Mark → Standing Stage
+stages_since mark = record { Stands = StandsSince mark; Leaves = LeavesAt mark; Counts = Counts }
 
 -- ---- the seats of the words
 

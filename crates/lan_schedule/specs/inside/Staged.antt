@@ -24,9 +24,9 @@ use Rattle.lan_schedule.specs.Numbers.{decided}
 use Rattle.lan_schedule.specs.Acts.{Act, happen}
 use Rattle.lan_schedule.specs.Reports.{Report}
 use Rattle.lan_schedule.specs.Ends.{Moment, IsReached, Ends}
-use Rattle.lan_schedule.specs.Stages.{StandsWith, StandsFor, Counts}
+use Rattle.lan_schedule.specs.Stages.{StandsWith, StandsFor}
 use Rattle.lan_schedule.specs.inside.Comes.{Comes, named}
-use Rattle.lan_schedule.specs.inside.Recording.{Mark, StandsSince, LeavesAt, HasLooked, KeepSeats}
+use Rattle.lan_schedule.specs.inside.Recording.{Mark, StandsSince, HasLooked, KeepSeats, stages_since}
 use Rattle.lan_schedule.specs.inside.Recording.{epoch_of, steps_of}
 use Rattle.lan_schedule.specs.inside.Set.{AreSet}
 
@@ -40,7 +40,7 @@ pub record Did {K : Type 0} (Took : K → Report → K → Type 0)
   pub chances : List Chance
   pub ends : (mark : Mark) (w : World) (later : List Chance) → w.kept.chances ≡ chances ++ later
       → IsReached (StandsSince mark) w old.value → Comes act w
-      → Ends (StandsSince mark) (LeavesAt mark) Counts Took Broke w later act old.outlet
+      → Ends (stages_since mark) Took Broke w later act old.outlet
       new result
   pub seats : KeepSeats old.value.words new.value.words
 
@@ -51,7 +51,7 @@ pub record DidWhere {K : Type 0} (Holds : World → Type 0) (Took : K → Report
   pub chances : List Chance
   pub ends : (mark : Mark) (w : World) (later : List Chance) → w.kept.chances ≡ chances ++ later
       → IsReached (StandsSince mark) w old.value → Holds w → Comes act w
-      → Ends (StandsSince mark) (LeavesAt mark) Counts Took Broke w later act old.outlet
+      → Ends (stages_since mark) Took Broke w later act old.outlet
       new result
   pub seats : KeepSeats old.value.words new.value.words
 
@@ -76,7 +76,7 @@ pub record Happened {K : Type 0} (Took : K → Report → K → Type 0)
       → w.kept.chances ≡ decided old.value.raced event ++ later
       → IsReached (IsSetSince event mark) w old.value → given ≡ named w event
       → Comes (happen event) w
-      → Ends (StandsSince mark) (LeavesAt mark) Counts Took Broke w later (happen event)
+      → Ends (stages_since mark) Took Broke w later (happen event)
       old.outlet new result
   pub seats : KeepSeats old.value.words new.value.words
   -- an emission moves no word
@@ -98,7 +98,7 @@ pub record WentOn {K : Type 0} (Took : K → Report → K → Type 0)
       → IsReached (IsSetSince event mark) w old.value → Comes (happen event) w
       → GoesOn (settings w) w.kept.users w.run event (supply_nth old.value.draws)
       (supply_nth mid.draws) mid.lan facts
-      → Ends (StandsSince mark) (LeavesAt mark) Counts Took Broke w later (happen event)
+      → Ends (stages_since mark) Took Broke w later (happen event)
       old.outlet new result
   pub seats : KeepSeats old.value.words new.value.words
   -- an emission moves no word

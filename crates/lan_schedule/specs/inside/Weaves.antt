@@ -9,7 +9,7 @@ use Rattle.lan_core.specs.declared.fact.Fact.TheVariants as facts
 use Rattle.lan_core.specs.declared.fact.Lack.TheVariants.{NoKey}
 use Rattle.lan_base.specs.declared.sink.Unwritten.{Unwritten}
 use Rattle.lan_base.specs.declared.sink.Unwritten.TheVariants.{Memory}
-use Rattle.lan_schedule.specs.Reports.{Report, AreTold}
+use Rattle.lan_schedule.specs.Reports.{Report}
 
 -- ---- what is kept
 
@@ -77,15 +77,3 @@ facts_in before (shown ∷ later) = facts_in (before ++ shown) later
 -- the reports of what events showed, where the stations have these names
 abbrev pub reports_with : List (List ℕ) → List (List Fact) → List Report
 reports_with names shown = map (λ facts. record { names = names; facts = facts }) shown
-
--- reports were told up to one, at which the recorder broke
-pub record WereToldUpTo {K : Type 0} (Took : K → Report → K → Type 0)
-    (Broke : K → Report → K → Unwritten → Type 0) (all : List Report) (old new : K) (why : Unwritten) :
-    Type 0 where
-  pub told : List Report
-  pub last : Report
-  pub behind : List Report
-  pub parts : all ≡ told ++ last ∷ behind
-  pub before : K
-  pub by_one : AreTold Took old told before
-  pub breaks : Broke before last new why

@@ -1,6 +1,10 @@
 use Rattle.std.proofs.Common.{arith}
 use Rattle.lan_schedule.proofs.Controlling.{control-step, control-err, control-end}
+use Rattle.lan_schedule.proofs.Doing.{in-turn, leads-start}
 use Rattle.lan_schedule.proofs.stage.Stage.control.Goals as goal
+
+pub loop-kept-init : goal.loop-kept-init
+loop-kept-init g c = leads-start in-turn _ _
 
 pub returns-in_err-controlled : goal.returns-in_err-controlled
 returns-in_err-controlled g c =

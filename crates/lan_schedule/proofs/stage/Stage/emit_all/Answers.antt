@@ -1,12 +1,12 @@
 use Rattle.std.proofs.Common.{refl, ◌∙◌, arith}
 use Rattle.lan_core.specs.declared.event.Event.TheVariants.{Emit}
 use Rattle.lan_schedule.specs.Acts.{happen}
-use Rattle.lan_schedule.proofs.Doing.{span-start, span-step, span-exit, span-end}
+use Rattle.lan_schedule.proofs.Doing.{in-turn, span-start, span-step, span-exit, span-end}
 use Rattle.lan_schedule.proofs.Happening.{plainly}
 use Rattle.lan_schedule.proofs.stage.Stage.emit_all.Goals as goal
 
 pub loop-init : goal.loop-init
-loop-init g c = (span-start (λ _. happen Emit) c.args.count _, refl)
+loop-init g c = (span-start in-turn (λ _. happen Emit) c.args.count _, refl)
 
 pub returns-in_err-happen : goal.returns-in_err-happen
 returns-in_err-happen g c = record {

@@ -1,4 +1,4 @@
-use Rattle.std.proofs.Common.{Bool, true, false, List, inl, inr, refl, sym, ap, ◌∙◌, subst}
+use Rattle.std.proofs.Common.{Bool, true, false, List, inr, refl, sym, ap, ◌∙◌, subst}
 use Rattle.association_slots.specs.Views.{ControlAt}
 use Rattle.station_words.specs.Ties.{tables_of}
 use Rattle.data_workers.specs.Workers.{WorkerAt}

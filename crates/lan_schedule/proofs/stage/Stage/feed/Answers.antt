@@ -1,7 +1,7 @@
 use Rattle.std.proofs.Common.{◌+◌, ◌-◌, ℕ, arith}
 use Rattle.lan_core.specs.declared.event.Event.TheVariants.{Deliver}
 use Rattle.lan_schedule.specs.Acts.{Act, happen}
-use Rattle.lan_schedule.proofs.Doing.{span-start, span-step, span-exit, span-end}
+use Rattle.lan_schedule.proofs.Doing.{in-turn, span-start, span-step, span-exit, span-end}
 use Rattle.lan_schedule.proofs.stage.Stage.feed.Goals as goal
 
 abbrev one : ℕ → ℕ → ℕ → Act
@@ -9,7 +9,7 @@ one first s k = happen (Deliver (first + k) s)
 
 pub loop-behind-init : goal.loop-behind-init
 loop-behind-init g c =
-    span-start (one c.args.first c.args.station) (c.args.last + 1 - c.args.first) _
+    span-start in-turn (one c.args.first c.args.station) (c.args.last + 1 - c.args.first) _
 
 pub returns-in_err-deliver : goal.returns-in_err-deliver
 returns-in_err-deliver g c =

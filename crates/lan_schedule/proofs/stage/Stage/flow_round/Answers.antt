@@ -1,13 +1,13 @@
 use Rattle.std.proofs.Common.{refl, ◌∙◌}
 use Rattle.lan_schedule.specs.Lines.{flow_round}
-use Rattle.lan_schedule.proofs.Doing.{leads-start, leads-step, leads-err, handed-on, memory-does}
+use Rattle.lan_schedule.proofs.Doing.{in-turn, leads-start, leads-step, leads-err, handed-on, memory-does}
 use Rattle.lan_schedule.proofs.Looking.{due-leads, begin-does, round-begun}
 use Rattle.lan_schedule.proofs.Recorded.{seats-kept}
 use Rattle.lan_schedule.proofs.stage.Stage.flow_round.Goals as goal
 
 pub returns-in_err-round : goal.returns-in_err-round
 returns-in_err-round g c =
-    let begun = leads-step _ _ _ _ _ _ (leads-start flow_round _) (begin-does _ _
+    let begun = leads-step _ _ _ _ _ _ (leads-start in-turn flow_round _) (begin-does _ _
     (round-begun _ _ (record {
       line = refl;
       lag = refl;
@@ -25,7 +25,7 @@ returns-in_err-round g c =
 
 pub returns-in_err-frames : goal.returns-in_err-frames
 returns-in_err-frames g c =
-    let begun = leads-step _ _ _ _ _ _ (leads-start flow_round _) (begin-does _ _
+    let begun = leads-step _ _ _ _ _ _ (leads-start in-turn flow_round _) (begin-does _ _
     (round-begun _ _ (record {
       line = refl;
       lag = refl;
@@ -44,7 +44,7 @@ returns-in_err-frames g c =
 
 pub returns : goal.returns
 returns g c =
-    let begun = leads-step _ _ _ _ _ _ (leads-start flow_round _) (begin-does _ _
+    let begun = leads-step _ _ _ _ _ _ (leads-start in-turn flow_round _) (begin-does _ _
     (round-begun _ _ (record {
       line = refl;
       lag = refl;

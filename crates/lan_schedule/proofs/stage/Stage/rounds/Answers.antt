@@ -1,10 +1,10 @@
 use Rattle.std.proofs.Common.{arith}
 use Rattle.lan_schedule.specs.Lines.{round}
-use Rattle.lan_schedule.proofs.Doing.{span-start, span-step, span-exit, span-end}
+use Rattle.lan_schedule.proofs.Doing.{in-turn, span-start, span-step, span-exit, span-end}
 use Rattle.lan_schedule.proofs.stage.Stage.rounds.Goals as goal
 
 pub loop-init : goal.loop-init
-loop-init g c = span-start (λ _. round) c.args.count _
+loop-init g c = span-start in-turn (λ _. round) c.args.count _
 
 pub returns-in_err-round : goal.returns-in_err-round
 returns-in_err-round g c =

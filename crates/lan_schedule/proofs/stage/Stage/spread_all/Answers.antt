@@ -1,7 +1,10 @@
 use Rattle.std.proofs.Common.{arith}
 use Rattle.lan_schedule.specs.Lines.{spread}
-use Rattle.lan_schedule.proofs.Doing.{each-step, each-err, each-end}
+use Rattle.lan_schedule.proofs.Doing.{each-step, each-err, each-end, in-turn, leads-start}
 use Rattle.lan_schedule.proofs.stage.Stage.spread_all.Goals as goal
+
+pub loop-frame-init : goal.loop-frame-init
+loop-frame-init g c = leads-start in-turn _ _
 
 pub returns-in_err-spread : goal.returns-in_err-spread
 returns-in_err-spread g c =

@@ -6,12 +6,14 @@ use Rattle.lan_schedule.proofs.stage.Stage.taken.Goals as goal
 
 pub returns-then-has_sci : goal.returns-then-has_sci
 returns-then-has_sci c =
-    taken-sci _ _ (sym c.is_named.ensures ∙ c.if-is_named.false)
+    let named = rw c.names.ensures.names at c.is_named.ensures in
+    taken-sci _ _ (sym named ∙ c.if-is_named.false)
     (any-map (pointwise nat_eq c.args.sci.now.0) (scis_in c.args.self.now.lan) ∙ sym c.has_sci.ensures.places
     ∙ c.if-has_sci.true)
 
 pub returns-else-has_sci : goal.returns-else-has_sci
 returns-else-has_sci c =
-    taken-none _ _ (sym c.is_named.ensures ∙ c.if-is_named.false)
+    let named = rw c.names.ensures.names at c.is_named.ensures in
+    taken-none _ _ (sym named ∙ c.if-is_named.false)
     (any-map (pointwise nat_eq c.args.sci.now.0) (scis_in c.args.self.now.lan) ∙ sym c.has_sci.ensures.places
     ∙ c.if-has_sci.false)
