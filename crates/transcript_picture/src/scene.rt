@@ -68,15 +68,7 @@ impl Scene {
                 arrival,
                 ..
             } => self.columns.take(*station, at, arrival),
-            Fact::Ticked { .. }
-            | Fact::Dropped { .. }
-            | Fact::Retired { .. }
-            | Fact::Began { .. }
-            | Fact::Untaken { .. }
-            | Fact::Framed { .. }
-            | Fact::HeardMka { .. }
-            | Fact::Claimed { .. }
-            | Fact::Unclaimed { .. } => Ok(()),
+            _ => Ok(()),
         }
     }
 

@@ -87,18 +87,7 @@ more-gathered s [] older = omega arith
 more-gathered s (facts.Installed t id an epoch sak ∷ later) older =
     let i : Install = record { station = t; id = id; an = an; epoch = epoch; sak = sak } in
     let one = more-one s i older in let rest = more-gathered s later (i ∷ older) in omega (arith, one, rest)
-more-gathered s (facts.Life t mi ∷ later) older = more-gathered s later older
-more-gathered s (facts.Ticked t n next ∷ later) older = more-gathered s later older
-more-gathered s (facts.Server t mi ∷ later) older = more-gathered s later older
-more-gathered s (facts.Dropped t id an ∷ later) older = more-gathered s later older
-more-gathered s (facts.Retired t id an ∷ later) older = more-gathered s later older
-more-gathered s (facts.Began t id an epoch cause ∷ later) older = more-gathered s later older
-more-gathered s (facts.Untaken t id why ∷ later) older = more-gathered s later older
-more-gathered s (facts.Framed n t sec octets ∷ later) older = more-gathered s later older
-more-gathered s (facts.HeardMka n t verdict ∷ later) older = more-gathered s later older
-more-gathered s (facts.Claimed t an epoch pn ∷ later) older = more-gathered s later older
-more-gathered s (facts.Unclaimed t why ∷ later) older = more-gathered s later older
-more-gathered s (facts.Arrived n t arrival ∷ later) older = more-gathered s later older
+more-gathered s (_ ∷ later) older = more-gathered s later older
 
 more-installs : (s : ℕ) (x : Happening) (r : Run) → length (installs_at s r) ≤ length (installs_at s (x ∷ r))
 unfolding ledger

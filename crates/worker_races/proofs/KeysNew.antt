@@ -196,18 +196,7 @@ shown-later s epoch fact shown is = record { id = is.id; an = is.an; sak = is.sa
 counted-front : (shown : List Fact) (older : List Install) → AreCounted (gather install_of shown older) → AreCounted older
 counted-front [] older are = are
 counted-front (facts.Installed t id an epoch sak ∷ later) older are = (counted-front later _ are).1
-counted-front (facts.Life t mi ∷ later) older are = counted-front later older are
-counted-front (facts.Ticked t n next ∷ later) older are = counted-front later older are
-counted-front (facts.Server t mi ∷ later) older are = counted-front later older are
-counted-front (facts.Dropped t id an ∷ later) older are = counted-front later older are
-counted-front (facts.Retired t id an ∷ later) older are = counted-front later older are
-counted-front (facts.Began t id an epoch cause ∷ later) older are = counted-front later older are
-counted-front (facts.Untaken t id why ∷ later) older are = counted-front later older are
-counted-front (facts.Framed n t sec octets ∷ later) older are = counted-front later older are
-counted-front (facts.HeardMka n t verdict ∷ later) older are = counted-front later older are
-counted-front (facts.Claimed t an epoch pn ∷ later) older are = counted-front later older are
-counted-front (facts.Unclaimed t why ∷ later) older are = counted-front later older are
-counted-front (facts.Arrived n t arrival ∷ later) older are = counted-front later older are
+counted-front (_ ∷ later) older are = counted-front later older are
 
 shown-new : (s : ℕ) (shown : List Fact) (older : List Install)
     → count_at s (gather install_of shown older) ≡ count_at s older + 1
@@ -230,18 +219,7 @@ shown-new s (facts.Installed t id an epoch sak ∷ later) older more are = elim 
       let rest = shown-new s later _ (more ∙ ap (λ n. n + 1) (sym same)) are in
       shown-later s _ _ later (subst (λ n. IsShownIn s n later) (ap (λ n. n + 1) same) rest))
 ]
-shown-new s (facts.Life t mi ∷ later) older more are = shown-later s _ _ later (shown-new s later older more are)
-shown-new s (facts.Ticked t n next ∷ later) older more are = shown-later s _ _ later (shown-new s later older more are)
-shown-new s (facts.Server t mi ∷ later) older more are = shown-later s _ _ later (shown-new s later older more are)
-shown-new s (facts.Dropped t id an ∷ later) older more are = shown-later s _ _ later (shown-new s later older more are)
-shown-new s (facts.Retired t id an ∷ later) older more are = shown-later s _ _ later (shown-new s later older more are)
-shown-new s (facts.Began t id an epoch cause ∷ later) older more are = shown-later s _ _ later (shown-new s later older more are)
-shown-new s (facts.Untaken t id why ∷ later) older more are = shown-later s _ _ later (shown-new s later older more are)
-shown-new s (facts.Framed n t sec octets ∷ later) older more are = shown-later s _ _ later (shown-new s later older more are)
-shown-new s (facts.HeardMka n t verdict ∷ later) older more are = shown-later s _ _ later (shown-new s later older more are)
-shown-new s (facts.Claimed t an epoch pn ∷ later) older more are = shown-later s _ _ later (shown-new s later older more are)
-shown-new s (facts.Unclaimed t why ∷ later) older more are = shown-later s _ _ later (shown-new s later older more are)
-shown-new s (facts.Arrived n t arrival ∷ later) older more are = shown-later s _ _ later (shown-new s later older more are)
+shown-new s (_ ∷ later) older more are = shown-later s _ _ later (shown-new s later older more are)
 
 -- the key that an event installed is shown by its facts
 pub new-shown : (settings : Settings) (s : ℕ) (x : Happening) (r : Run) (k : Key)

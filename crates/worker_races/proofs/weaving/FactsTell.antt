@@ -92,22 +92,13 @@ module _ (s : ℕ) (later : List Fact) (j : Carried) (rest : (c : Carried) → f
 
 pub facts-tell : (s : ℕ) (shown : List Fact) (k j : Carried) → follow s shown k ≡ Some j → Tells s shown k j
 facts-tell s [] k j is = let same : k ≡ j = cc is in ap (λ (c : Carried). map current_of c.points) (sym same)
-facts-tell s (facts.Life t mi ∷ later) k j is = facts-tell s later k j is
-facts-tell s (facts.Ticked t at next ∷ later) k j is = facts-tell s later k j is
-facts-tell s (facts.Server t mi ∷ later) k j is = facts-tell s later k j is
 facts-tell s (facts.Dropped t id an ∷ later) k j is =
     dropped-tells s later j (λ c follows. facts-tell s later c j follows) an k (t == s) is
-facts-tell s (facts.Retired t id an ∷ later) k j is = facts-tell s later k j is
 facts-tell s (facts.Began t id an epoch cause ∷ later) k j is =
     began-tells s later j (λ c follows. facts-tell s later c j follows) an epoch k (t == s) is
 facts-tell s (facts.Installed t id an epoch sak ∷ later) k j is =
     installed-tells s later j (λ c follows. facts-tell s later c j follows) k (t == s) is
-facts-tell s (facts.Untaken t id why ∷ later) k j is = facts-tell s later k j is
-facts-tell s (facts.Framed number t sec octets ∷ later) k j is = facts-tell s later k j is
-facts-tell s (facts.HeardMka number t verdict ∷ later) k j is = facts-tell s later k j is
-facts-tell s (facts.Claimed t an epoch pn ∷ later) k j is = facts-tell s later k j is
-facts-tell s (facts.Unclaimed t why ∷ later) k j is = facts-tell s later k j is
-facts-tell s (facts.Arrived number t arrival ∷ later) k j is = facts-tell s later k j is
+facts-tell s (_ ∷ later) k j is = facts-tell s later k j is
 
 -- ---- of a step
 

@@ -101,17 +101,7 @@ named s top top' k (facts.Began t id an epoch cause ∷ later) ws it is = go (λ
         → list_any (is_drop_of s k) later ≡ true
     go rest true is = absurd (no-point an epoch top' (cc is))
     go rest false is = rest is
-named s top top' k (facts.Life t mi ∷ later) ws it is = named s top top' k later ws it is
-named s top top' k (facts.Ticked t at next ∷ later) ws it is = named s top top' k later ws it is
-named s top top' k (facts.Server t mi ∷ later) ws it is = named s top top' k later ws it is
-named s top top' k (facts.Retired t id an ∷ later) ws it is = named s top top' k later ws it is
-named s top top' k (facts.Installed t id an epoch sak ∷ later) ws it is = named s top top' k later ws it is
-named s top top' k (facts.Untaken t id why ∷ later) ws it is = named s top top' k later ws it is
-named s top top' k (facts.Framed number t sec octets ∷ later) ws it is = named s top top' k later ws it is
-named s top top' k (facts.HeardMka frame t verdict ∷ later) ws it is = named s top top' k later ws it is
-named s top top' k (facts.Claimed t an epoch pn ∷ later) ws it is = named s top top' k later ws it is
-named s top top' k (facts.Unclaimed t why ∷ later) ws it is = named s top top' k later ws it is
-named s top top' k (facts.Arrived frame t arrival ∷ later) ws it is = named s top top' k later ws it is
+named s top top' k (_ ∷ later) ws it is = named s top top' k later ws it is
 
 -- a point among the words
 pub Points : List Current → Type 0
@@ -134,17 +124,7 @@ pointed s top o (facts.Began t id an epoch cause ∷ later) is = go (λ h. point
         → (b || list_any (is_beginning s) later) ≡ true
     go on true more = refl
     go on false more = on more
-pointed s top o (facts.Life t mi ∷ later) is = pointed s top o later is
-pointed s top o (facts.Ticked t at next ∷ later) is = pointed s top o later is
-pointed s top o (facts.Server t mi ∷ later) is = pointed s top o later is
-pointed s top o (facts.Retired t id an ∷ later) is = pointed s top o later is
-pointed s top o (facts.Installed t id an epoch sak ∷ later) is = pointed s top o later is
-pointed s top o (facts.Untaken t id why ∷ later) is = pointed s top o later is
-pointed s top o (facts.Framed number t sec octets ∷ later) is = pointed s top o later is
-pointed s top o (facts.HeardMka frame t verdict ∷ later) is = pointed s top o later is
-pointed s top o (facts.Claimed t an epoch pn ∷ later) is = pointed s top o later is
-pointed s top o (facts.Unclaimed t why ∷ later) is = pointed s top o later is
-pointed s top o (facts.Arrived frame t arrival ∷ later) is = pointed s top o later is
+pointed s top o (_ ∷ later) is = pointed s top o later is
 
 -- ---- changes
 

@@ -79,18 +79,7 @@ pub adds-none : (shown : List Fact) (cs : List Number) → ((s : ℕ) (an : Asso
     → gather claim_of shown cs ≡ cs
 adds-none [] cs none = refl
 adds-none (facts.Claimed s an epoch pn ∷ later) cs none = absurd (none s an epoch pn (inl refl))
-adds-none (facts.Unclaimed s why ∷ later) cs none = adds-none later cs (λ s an epoch pn i. none s an epoch pn (inr i))
-adds-none (facts.Life s mi ∷ later) cs none = adds-none later cs (λ s an epoch pn i. none s an epoch pn (inr i))
-adds-none (facts.Ticked s at next ∷ later) cs none = adds-none later cs (λ s an epoch pn i. none s an epoch pn (inr i))
-adds-none (facts.Server s mi ∷ later) cs none = adds-none later cs (λ s an epoch pn i. none s an epoch pn (inr i))
-adds-none (facts.Dropped s id an ∷ later) cs none = adds-none later cs (λ s an epoch pn i. none s an epoch pn (inr i))
-adds-none (facts.Retired s id an ∷ later) cs none = adds-none later cs (λ s an epoch pn i. none s an epoch pn (inr i))
-adds-none (facts.Began s id an epoch cause ∷ later) cs none = adds-none later cs (λ s an epoch pn i. none s an epoch pn (inr i))
-adds-none (facts.Installed s id an epoch sak ∷ later) cs none = adds-none later cs (λ s an epoch pn i. none s an epoch pn (inr i))
-adds-none (facts.Untaken s id why ∷ later) cs none = adds-none later cs (λ s an epoch pn i. none s an epoch pn (inr i))
-adds-none (facts.Framed number s sec octets ∷ later) cs none = adds-none later cs (λ s an epoch pn i. none s an epoch pn (inr i))
-adds-none (facts.HeardMka frame s verdict ∷ later) cs none = adds-none later cs (λ s an epoch pn i. none s an epoch pn (inr i))
-adds-none (facts.Arrived frame s arrival ∷ later) cs none = adds-none later cs (λ s an epoch pn i. none s an epoch pn (inr i))
+adds-none (_ ∷ later) cs none = adds-none later cs (λ s an epoch pn i. none s an epoch pn (inr i))
 
 move-claims : (settings : Settings) (users : List UserFrame) (c q : Run) (m : Move) → IsMove settings users c m
     → claims (m.x ∷ q) ≡ claims q
