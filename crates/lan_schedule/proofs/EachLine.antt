@@ -2,13 +2,11 @@
 use Rattle.std.proofs.Common.{◌≡◌, ◌<◌, ◌≤◌, ◌+◌, ◌^◌, ◌==◌, ℕ, suc, Bool, true, false, List, []}
 use Rattle.std.proofs.Common.{◌∷◌, ◌++◌, length, length-append, Option, Some, None}
 use Rattle.std.proofs.Common.{◌⊎◌, inl, inr, refl, sym, ap, ◌∙◌, subst, arith}
-use Rattle.std.specs.Prelude.{Result, Ok, Err, cond, not, ◌&&◌, is_some, unwrap_or}
-use Rattle.std.specs.Option.{is_none}
+use Rattle.std.specs.Prelude.{Result, Ok, Err, cond, is_some, unwrap_or}
 use Rattle.lan_base.specs.Ranges.{IsCkn}
 use Rattle.lan_base.specs.declared.frame.UserFrame.{UserFrame}
 use Rattle.aes_block.specs.declared.secret.Secret.TheVariants.{S128, S256}
-use Rattle.lan_core.specs.declared.event.Event.TheVariants.{Start, Deliver, Restart}
-use Rattle.lan_core.specs.declared.event.Event.TheVariants.{Inject}
+use Rattle.lan_core.specs.declared.event.Event.TheVariants.{Start}
 use Rattle.lan_core.specs.Types.{IsTyped, IsSecret, AreOctets}
 use Rattle.trace_text.specs.declared.fault.TextFault.{TextFault}
 use Rattle.trace_text.specs.declared.line.Line.{Line}
@@ -20,29 +18,34 @@ use Rattle.trace_acts.specs.declared.choices.Choices.{Choices}
 use Rattle.trace_acts.specs.declared.choices.Keyed.{Keyed}
 use Rattle.trace_acts.specs.declared.halt.Kind.{Kind}
 use Rattle.trace_acts.specs.Settings.{no_choice, secret_of, unkeyed, settings_of}
-use Rattle.trace_acts.specs.Kinds.{may_list, first_of}
+use Rattle.trace_acts.specs.Kinds.{first_of}
 use Rattle.trace_acts.specs.Choosing.{chosen_by}
 use Rattle.trace_acts.proofs.Public.{bytes-all}
 use Rattle.lan_schedule.specs.Races.{Burst, Excess, Numbered}
 use Rattle.lan_schedule.specs.Races.{Chance, Phase, Apart, Bursting, Controlling, Racing}
-use Rattle.lan_schedule.specs.World.{World, Kept, beginning, settings, place, mark, is_racing}
-use Rattle.lan_schedule.specs.Acts.{Act, Course, Goes, Stops, happen, change, seq}
-use Rattle.lan_schedule.specs.Acts.{perform, and_then, world_of, course, times}
+use Rattle.lan_schedule.specs.World.{World, Kept, beginning, settings, is_racing}
+use Rattle.lan_schedule.specs.Acts.{Act, Course, Goes, Stops, happen, seq}
+use Rattle.lan_schedule.specs.Acts.{perform, and_then, world_of, course}
+use Rattle.lan_schedule.specs.declared.deed.Deed.{Deed}
+use Rattle.lan_schedule.specs.declared.deed.Deed.TheVariants as deeds
+use Rattle.lan_schedule.specs.Deeds.{IsInRange}
 use Rattle.lan_schedule.specs.Kinds.{refusal, refusal_read, may_stand, wrong_at}
-use Rattle.lan_schedule.specs.Lines.{deed, deed_at, deed_read, feed, send, unless_refused}
+use Rattle.lan_schedule.specs.Lines.{act, deed, deed_at, deed_read, send, unless_refused}
 use Rattle.lan_schedule.specs.Lines.{deed_controlling, excess_of}
 use Rattle.lan_schedule.specs.Lines.{behind_race, behind_while, close_at, performed_whole}
-use Rattle.lan_schedule.specs.Lines.{performed, performed_all, tick, round, spread, flow_round}
-use Rattle.lan_schedule.specs.Lines.{add_user, cut_in, is_over, line_after, mended_in, over_excess}
+use Rattle.lan_schedule.specs.Lines.{performed, performed_all}
+use Rattle.lan_schedule.specs.Lines.{add_user, is_over, line_after, over_excess}
 use Rattle.lan_schedule.specs.Lines.{unless_exceeded}
 use Rattle.lan_schedule.specs.Sound.{IsTidy, HasRunNone}
 use Rattle.lan_schedule.specs.inside.Comes.{Comes}
 use Rattle.lan_schedule.proofs.Bounded.{AreBounded, bounded-first}
-use Rattle.lan_schedule.proofs.LinesCome.{IsRight, is-right, deed-comes, tidy-same, tidy-entered}
+use Rattle.lan_schedule.proofs.LinesCome.{IsRight, is-right, tidy-same, tidy-entered}
+use Rattle.lan_schedule.proofs.EachDeed.{allowed-deed, chosen-before, deed-comes, may_act}
+use Rattle.lan_schedule.proofs.EachDeed.{mild-act, of-line, range-of}
 use Rattle.lan_schedule.proofs.Beginning.{tidy-beginning}
 use Rattle.lan_schedule.proofs.RunNone.{HasNone, run-none, behind-bursting, behind-lines, behind-close}
-use Rattle.lan_schedule.proofs.Settled.{IsMild, IsOpen, HasSetting, stays-open, mild-ticks}
-use Rattle.lan_schedule.proofs.Settled.{mild-feed, mild-rounds, mild-mark, mild-spread, mild-flow, mild-send}
+use Rattle.lan_schedule.proofs.Settled.{IsMild, IsOpen, HasSetting, stays-open}
+use Rattle.lan_schedule.proofs.Settled.{mild-send}
 
 -- ---- what was chosen
 
@@ -100,21 +103,8 @@ chosen-stays (lines.Group cak ckn) form chosen are =
       rekey = are.rekey;
       group = λ other e. subst IsNamed (same-named named other e) is;
     }
-chosen-stays lines.DrawsCount form chosen are =
+chosen-stays _ form chosen are =
     record { window = are.window; rekey = are.rekey; group = are.group }
-chosen-stays (lines.DrawsChaCha key) form chosen are =
-    record { window = are.window; rekey = are.rekey; group = are.group }
-chosen-stays (lines.DrawsList values) form chosen are =
-    record { window = are.window; rekey = are.rekey; group = are.group }
-chosen-stays (lines.Conf conf) form chosen are =
-    record { window = are.window; rekey = are.rekey; group = are.group }
-chosen-stays (lines.Lag lag) form chosen are =
-    record { window = are.window; rekey = are.rekey; group = are.group }
-chosen-stays (lines.Suite suite) form chosen are =
-    record { window = are.window; rekey = are.rekey; group = are.group }
-chosen-stays (lines.Flag early) form chosen are =
-    record { window = are.window; rekey = are.rekey; group = are.group }
-chosen-stays _ form chosen are = are
 
 named-sets : (chosen : Choices) (o : Option Keyed) → chosen.group ≡ o → is_some o ≡ true
     → AreChosen chosen → HasSetting chosen
@@ -179,17 +169,12 @@ ready-again n chosen w are keyed now = record {
 
 -- ---- lines
 
-not-begun : (a b : Bool) → (not a && b) ≡ true → a ≡ false
-not-begun true b e = absurd (cc e)
-not-begun false b e = refl
-
 -- before the first station a line chooses something
-chosen-ready : (n : ℕ) (line : Line) (b : Bool) (w : World) → IsInForm line → IsReady n w
-    → (not w.kept.begun && b) ≡ true
+chosen-ready : (n : ℕ) (line : Line) (w : World) → IsInForm line → IsReady n w
+    → w.kept.begun ≡ false
     → IsTidy (record w { kept = record w.kept { chosen = chosen_by line w.kept.chosen } })
     → IsReady (suc n) (record w { kept = record w.kept { chosen = chosen_by line w.kept.chosen } })
-chosen-ready n line b w form ready allowed tidy =
-    let before : w.kept.begun ≡ false = not-begun w.kept.begun b allowed in
+chosen-ready n line w form ready before tidy =
     let later = settings_of (chosen_by line w.kept.chosen) in
     record {
       users = let few = ready.users in omega (arith, few);
@@ -286,87 +271,32 @@ exceeded-ready : (n : ℕ) (o : Option Excess) (act : Act) (w : World) → IsRea
 exceeded-ready n None act w ready comes goes = goes comes
 exceeded-ready n (Some excess) act w ready comes goes = more-ready n w ready
 
--- what a line performs outside a race that isn't refused leaves such a world
+-- what a deed performs that may be done leaves such a world
+act-ready : (n : ℕ) (d : Deed) (w : World) → suc n < 2 ^ 32 → IsInRange d → IsReady n w
+    → may_act d w.kept.begun w.kept.chosen ≡ true → Comes (act d) w
+    → IsReady (suc n) (world_of (perform (act d) w))
+act-ready n (deeds.Start name sci priority) w below ranges ready may comes =
+    let small : priority ≤ 255 = ranges.2 in
+    let typed : IsTyped (Start name sci priority) = (ranges.0, ranges.1, omega (arith, small)) in
+    station-ready n (happen (Start name sci priority)) w below typed ready may comes.0
+    (comes.1 comes.0)
+act-ready n (deeds.Send s user) w below ranges ready may comes =
+    exceeded-ready n (over_excess (is_over w 1 1)) (seq (add_user user) (send s)) w ready comes
+    (λ goes. send-ready n s user w below ready may goes.0 (goes.1 goes.0))
+act-ready n d w below ranges ready may comes =
+    mild-ready n (act d) w below (mild-act (suc n) d ranges refl) ready may comes
+
+-- and so does what a line performs outside a race that isn't refused
 deed-ready : (n : ℕ) (line : Line) (w : World) → suc n < 2 ^ 32 → IsInForm line → IsReady n w
     → IsRight line w → Comes (deed line w) w
     → IsReady (suc n) (world_of (perform (deed line w) w))
-deed-ready n lines.DrawsCount w below form ready right comes =
-    chosen-ready n lines.DrawsCount (is_none w.kept.chosen.draws) w form ready right.allowed comes
-deed-ready n (lines.DrawsChaCha key) w below form ready right comes =
-    chosen-ready n (lines.DrawsChaCha key) (is_none w.kept.chosen.draws) w form ready right.allowed
-    comes
-deed-ready n (lines.DrawsList values) w below form ready right comes =
-    chosen-ready n (lines.DrawsList values) (may_list w.kept.chosen.draws) w form ready
-    right.allowed comes
-deed-ready n (lines.Conf conf) w below form ready right comes =
-    chosen-ready n (lines.Conf conf) (is_none w.kept.chosen.conf) w form ready right.allowed comes
-deed-ready n (lines.Window window) w below form ready right comes =
-    chosen-ready n (lines.Window window) (is_none w.kept.chosen.window) w form ready right.allowed
-    comes
-deed-ready n (lines.Rekey rekey) w below form ready right comes =
-    chosen-ready n (lines.Rekey rekey) (is_none w.kept.chosen.rekey) w form ready right.allowed
-    comes
-deed-ready n (lines.Lag lag) w below form ready right comes =
-    chosen-ready n (lines.Lag lag) (is_none w.kept.chosen.lag) w form ready right.allowed comes
-deed-ready n (lines.Suite suite) w below form ready right comes =
-    chosen-ready n (lines.Suite suite) (is_none w.kept.chosen.suite) w form ready right.allowed comes
-deed-ready n (lines.Flag early) w below form ready right comes =
-    chosen-ready n (lines.Flag early) (is_none w.kept.chosen.early_flag) w form ready right.allowed
-    comes
-deed-ready n (lines.Group cak ckn) w below form ready right comes =
-    chosen-ready n (lines.Group cak ckn) (is_none w.kept.chosen.group) w form ready right.allowed
-    comes
-deed-ready n (lines.Station name sci priority) w below form ready right comes =
-    let small : priority ≤ 255 = form.fits.1.1.0.1 in
-    let typed : IsTyped (Start name sci priority) = (
-      form.fits.0,
-      record { count = form.fits.1.0.0; octets = bytes-all sci.0 form.fits.1.0.1 },
-      omega (arith, small),
-    ) in
-    station-ready n (happen (Start name sci priority)) w below typed ready right.allowed
-    comes.0 (comes.1 comes.0)
-deed-ready n (lines.Tick rounds) w below form ready right comes =
-    mild-ready n (times rounds round) w below
-    (mild-rounds (suc n) rounds) ready right.allowed comes
-deed-ready n (lines.TickOne name ticks) w below form ready right comes =
-    mild-ready n (times ticks (tick (place w name))) w below
-    (mild-ticks (suc n) (place w name) ticks) ready right.allowed comes
-deed-ready n (lines.Flow rounds) w below form ready right comes =
-    mild-ready n (times rounds flow_round) w below
-    (mild-flow (suc n) rounds) ready right.allowed comes
-deed-ready n (lines.Deliver frame name) w below form ready right comes =
-    mild-ready n (happen (Deliver frame (place w name))) w below tt ready right.allowed comes
-deed-ready n (lines.Feed first last name) w below form ready right comes =
-    mild-ready n (feed first last (place w name)) w below
-    (mild-feed (suc n) first last (place w name)) ready right.allowed comes
-deed-ready n (lines.Spread frame) w below form ready right comes =
-    mild-ready n (spread frame) w below (mild-spread (suc n) frame) ready right.allowed comes
-deed-ready n (lines.Lose frame) w below form ready right comes =
-    mild-ready n (change (mark frame)) w below
-    (mild-mark (suc n) frame) ready right.allowed comes
-deed-ready n (lines.Cut from to) w below form ready right comes =
-    mild-ready n (change (cut_in (place w from) (place w to))) w below
-    (λ kept. record { chosen = refl; users = refl; begun = refl; raced = refl; phase = refl }) ready
-    right.allowed comes
-deed-ready n (lines.Mend from to) w below form ready right comes =
-    mild-ready n (change (mended_in (place w from) (place w to))) w below
-    (λ kept. record { chosen = refl; users = refl; begun = refl; raced = refl; phase = refl }) ready
-    right.allowed comes
-deed-ready n (lines.Restart name) w below form ready right comes =
-    mild-ready n (happen (Restart (place w name))) w below tt ready right.allowed comes
-deed-ready n (lines.Send name destination body) w below form ready right comes =
-    let user : UserFrame = record { destination = destination; body = body } in
-    exceeded-ready n (over_excess (is_over w 1 1)) (seq (add_user user) (send (place w name))) w ready
-    comes
-    (λ may. send-ready n (place w name) user w below ready right.allowed may.0 (may.1 may.0))
-deed-ready n (lines.Inject name octets) w below form ready right comes =
-    mild-ready n (happen (Inject (place w name) octets)) w below
-    (bytes-all octets form.fits.1.0.2) ready right.allowed comes
-deed-ready n lines.Race w below form ready right comes = entered-ready n (Bursting []) w ready refl comes
-deed-ready n (lines.Burst name workers frames destination body) w below form ready right comes =
-    absurd (cc (right.allowed))
-deed-ready n lines.While w below form ready right comes = absurd (cc (right.allowed))
-deed-ready n lines.End w below form ready right comes = absurd (cc (right.allowed))
+deed-ready n line w below form ready right = of-line
+    (λ a. Comes a w → IsReady (suc n) (world_of (perform a w))) line w
+    (λ d is comes. act-ready n d w below (range-of line _ d form is) ready
+    (sym (allowed-deed line _ w.kept.begun w.kept.chosen d is) ∙ right.allowed) comes)
+    (λ none isnt comes. chosen-ready n line w form ready
+    (chosen-before line _ w.kept.begun w.kept.chosen none isnt right.allowed) comes)
+    (λ is comes. entered-ready n (Bursting []) w ready refl comes)
 
 -- what is refused leaves the world as it was
 unless-ready : (n : ℕ) (o : Option Kind) (act : Act) (w : World) → IsReady n w

@@ -66,5 +66,6 @@ mod Stopping
 mod Opening
 mod Beginning
 mod Texting
+mod EachDeed
 mod EachLine
 pub mod Public

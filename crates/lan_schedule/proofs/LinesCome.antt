@@ -1,11 +1,9 @@
 -- What each line performs can be performed.
-use Rattle.std.proofs.Common.{◌≡◌, ◌<◌, ◌≤◌, ◌≢◌, ℕ, ◌+◌, ◌-◌, ◌==◌, Bool, true, false}
+use Rattle.std.proofs.Common.{◌≡◌, ◌<◌, ◌≤◌, ◌≢◌, ℕ, ◌+◌, ◌==◌, Bool, true, false}
 use Rattle.std.proofs.Common.{List, [], ◌∷◌, ◌++◌, length, Option, Some, None, ◌⊎◌, inl, inr, refl}
 use Rattle.std.proofs.Common.{sym, ap, ◌∙◌, subst, length-append, arith}
-use Rattle.std.specs.Prelude.{cond, map, not, ◌&&◌, nat_le, nat_lt, nat_eq, is_some}
+use Rattle.std.specs.Prelude.{cond, map, not, ◌&&◌, nat_le, nat_lt, is_some}
 use Rattle.std.specs.List.{find}
-use Rattle.std.specs.Option.{is_none}
-use Rattle.std.specs.Cmp.Lexicographic.{pointwise}
 use Rattle.std.proofs.lemmas.List.{length-map}
 use Rattle.lan_base.specs.declared.frame.UserFrame.{UserFrame}
 use Rattle.sak_exchange.specs.declared.held_key.Key.{Key}
@@ -23,37 +21,33 @@ use Rattle.lan_core.specs.Unstopped.{AreDraws}
 use Rattle.lan_core.proofs.Public.{legal-more}
 use Rattle.trace_acts.specs.Supply.{draw_at}
 use Rattle.trace_acts.specs.Settings.{rule_of}
-use Rattle.trace_acts.proofs.Public.{bytes-all, chosen-draws, new-station, not-false, or-none}
-use Rattle.trace_acts.proofs.Public.{place-there, unbegun-by, user-at-end, where-none}
+use Rattle.trace_acts.proofs.Public.{not-false, or-none}
+use Rattle.trace_acts.proofs.Public.{user-at-end, where-none}
 use Rattle.trace_acts.specs.declared.halt.Kind.{Kind}
 use Rattle.trace_acts.specs.declared.halt.Kind.TheVariants as kinds
-use Rattle.trace_acts.specs.Names.{names_of, scis_of, is_in}
-use Rattle.trace_acts.specs.Kinds.{where_, unknown, is_allowed, may_list}
-use Rattle.trace_acts.specs.Choosing.{chosen_by}
+use Rattle.trace_acts.specs.Names.{names_of, scis_of}
+use Rattle.trace_acts.specs.Kinds.{where_, is_allowed}
 use Rattle.trace_text.specs.declared.line.Line.{Line}
-use Rattle.trace_text.specs.declared.line.Line.TheVariants as lines
-use Rattle.trace_text.specs.Writing.{IsInForm}
 use Rattle.lan_schedule.specs.declared.frames.Put.{Put}
-use Rattle.lan_schedule.specs.World.{World, Kept, count, settings, place}
+use Rattle.lan_schedule.specs.World.{World, Kept, count, settings}
 use Rattle.lan_schedule.specs.World.{is_racing}
-use Rattle.lan_schedule.specs.Races.{Excess, Phase, Bursting, number_in}
+use Rattle.lan_schedule.specs.Races.{Excess, Phase, number_in}
 use Rattle.lan_schedule.specs.Numbers.{in_range, stands, number_claimed}
 use Rattle.lan_core.specs.Unstopped.{next_under}
 use Rattle.lan_schedule.specs.Acts.{Act, happen, seq, unless, perform}
-use Rattle.lan_schedule.specs.Kinds.{is_number, no_frame}
-use Rattle.lan_schedule.specs.Kinds.{wrong_word}
-use Rattle.lan_schedule.specs.Lines.{add_user, is_over, over_excess, send, deed, unless_exceeded}
+use Rattle.lan_schedule.specs.Deeds.{deed_of}
+use Rattle.lan_schedule.specs.Kinds.{is_number, no_frame, no_station, wrong_word}
+use Rattle.lan_schedule.specs.Lines.{add_user, send, unless_exceeded}
 use Rattle.lan_schedule.specs.Lines.{unless_refused}
-use Rattle.lan_schedule.specs.inside.Phased.{refusal_apart, act_apart}
+use Rattle.lan_schedule.specs.inside.Phased.{refusal_apart}
 use Rattle.lan_schedule.specs.Sound.{IsTidy, numbers_of, IsNeverSpent, IsSoundIn}
 use Rattle.lan_schedule.specs.inside.Comes.{Comes, HasRoom, named}
 use Rattle.lan_core.specs.Lives.{transmitting_at}
 use Rattle.lan_core.specs.Stops.{MayCome}
 use Rattle.lan_schedule.proofs.Awaiting.{waits-then}
 use Rattle.lan_schedule.proofs.Still.{stays}
-use Rattle.trace_acts.proofs.Public.{comes-span, is-going}
-use Rattle.lan_schedule.proofs.Coming.{IsOnAir, lasts, one-at-least, comes-ticks}
-use Rattle.lan_schedule.proofs.Coming.{comes-rounds, comes-spread, comes-flow, tidy-marked}
+use Rattle.trace_acts.proofs.Public.{is-going}
+use Rattle.lan_schedule.proofs.Coming.{IsOnAir, one-at-least}
 
 -- ---- what a line is not refused for
 
@@ -63,7 +57,8 @@ and-true false b e = absurd (cc e)
 
 -- the words of a line are right
 abbrev pub wrong_in : Line → World → Option Kind
-wrong_in line w = wrong_word line (names_of w.run) (scis_of w.run) (length w.kept.frames)
+wrong_in line w =
+    wrong_word (deed_of line w) (names_of w.run) (scis_of w.run) (length w.kept.frames)
 
 -- a line that isn't refused outside a race is allowed, and its words are right
 pub record IsRight (line : Line) (w : World) : Type 0 where
@@ -82,12 +77,11 @@ is-right line w e =
 
 -- ---- names and frames
 
-pub known : (name : List ℕ) (w : World) → unknown name (names_of w.run) ≡ None → place w name < count w
-known name w e =
-    let there : is_in name (names_of w.run)
-    ≡ true = not-false (is_in name (names_of w.run)) (where-none _ kinds.NameUnknown e) in
-    let lt : place w name < length (names_of w.run) =
-    place-there (pointwise nat_eq name) (names_of w.run) there in
+pub known : (s : ℕ) (w : World) → no_station s (names_of w.run) ≡ None → s < count w
+known s w e =
+    let there : nat_lt s (length (names_of w.run)) ≡ true =
+    not-false (nat_lt s (length (names_of w.run))) (where-none _ kinds.NameUnknown e) in
+    let lt : s < length (names_of w.run) = grind (arith, there) in
     let same : length (names_of w.run)
     ≡ count w = length-map (stations w.run) (λ (p : Profile). p.name) in
     omega arith
@@ -119,13 +113,13 @@ le-true : (a b : ℕ) → nat_le a b ≡ true → a ≤ b
 le-true a b e = grind arith
 
 -- a number that the air has
-numbered-in : (number count : ℕ) → no_frame number count ≡ None → (1 ≤ number) × (number ≤ count)
+pub numbered-in : (number count : ℕ) → no_frame number count ≡ None → (1 ≤ number) × (number ≤ count)
 numbered-in number count e =
     let both = and-true (nat_le 1 number) (nat_le number count)
     (not-false (is_number number count) (where-none _ kinds.FrameUnknown e)) in
     (le-true 1 number both.0, le-true number count both.1)
 
-within-air : (number : ℕ) (w : World) → IsTidy w → 1 ≤ number → number ≤ length w.kept.frames
+pub within-air : (number : ℕ) (w : World) → IsTidy w → 1 ≤ number → number ≤ length w.kept.frames
     → IsOnAir w.run number
 within-air number w tidy low high =
     let same : length w.kept.frames ≡ length (air w.run) =
@@ -175,14 +169,6 @@ tidy-unbegun w v tidy empty same frames races draws =
       draws = draws;
       dealt = rw races tidy.dealt;
     }
-
-chosen-comes : (line : Line) → IsInForm line → (b : Bool) (w : World) → IsTidy w
-    → (not w.kept.begun && b) ≡ true
-    → IsTidy (record w { kept = record w.kept { chosen = chosen_by line w.kept.chosen } })
-chosen-comes line form b w tidy e =
-    let unbegun : w.kept.begun ≡ false = unbegun-by w.kept.begun b e in
-    tidy-unbegun w _ tidy (tidy.waits unbegun) refl refl refl
-    (chosen-draws line form w.kept.chosen tidy.draws)
 
 -- what is kept and no world looks at leaves a world tidy
 pub tidy-same : (w : World) (kept : Kept) → IsTidy w → kept.chosen ≡ w.kept.chosen
@@ -322,7 +308,7 @@ claim-comes s user w tidy few is_user apart there =
           ))),
     )
 
-send-comes : (s : ℕ) (user : UserFrame) (w : World) → IsTidy w → IsUserFrame user
+pub send-comes : (s : ℕ) (user : UserFrame) (w : World) → IsTidy w → IsUserFrame user
     → is_racing w.kept.phase ≡ false → s < count w → Comes (seq (add_user user) (send s)) w
 send-comes s user w tidy is_user apart there =
     (tidy-user user w tidy, λ tidy_v. claim-comes s user w tidy_v tidy.few is_user apart there)
@@ -334,91 +320,7 @@ pub refused-comes : (o : Option Kind) (act : Act) (w : World) → (o ≡ None �
 refused-comes None act w h = h refl
 refused-comes (Some kind) act w h = tt
 
-exceeded-comes : (o : Option Excess) (act : Act) (w : World) → Comes act w
+pub exceeded-comes : (o : Option Excess) (act : Act) (w : World) → Comes act w
     → Comes (unless_exceeded o act) w
 exceeded-comes None act w h = h
 exceeded-comes (Some excess) act w h = tt
-
-pub deed-comes : (line : Line) → IsInForm line → (w : World) → IsTidy w
-    → is_racing w.kept.phase ≡ false → IsRight line w → Comes (deed line w) w
-deed-comes lines.DrawsCount form w tidy apart right =
-    chosen-comes lines.DrawsCount form (is_none w.kept.chosen.draws) w tidy right.allowed
-deed-comes (lines.DrawsChaCha key) form w tidy apart right =
-    chosen-comes (lines.DrawsChaCha key) form (is_none w.kept.chosen.draws) w tidy right.allowed
-deed-comes (lines.DrawsList values) form w tidy apart right =
-    chosen-comes (lines.DrawsList values) form (may_list w.kept.chosen.draws) w tidy right.allowed
-deed-comes (lines.Conf conf) form w tidy apart right =
-    chosen-comes (lines.Conf conf) form (is_none w.kept.chosen.conf) w tidy right.allowed
-deed-comes (lines.Window window) form w tidy apart right =
-    chosen-comes (lines.Window window) form (is_none w.kept.chosen.window) w tidy right.allowed
-deed-comes (lines.Rekey rekey) form w tidy apart right =
-    chosen-comes (lines.Rekey rekey) form (is_none w.kept.chosen.rekey) w tidy right.allowed
-deed-comes (lines.Lag lag) form w tidy apart right =
-    chosen-comes (lines.Lag lag) form (is_none w.kept.chosen.lag) w tidy right.allowed
-deed-comes (lines.Suite suite) form w tidy apart right =
-    chosen-comes (lines.Suite suite) form (is_none w.kept.chosen.suite) w tidy right.allowed
-deed-comes (lines.Flag early) form w tidy apart right =
-    chosen-comes (lines.Flag early) form (is_none w.kept.chosen.early_flag) w tidy right.allowed
-deed-comes (lines.Group cak ckn) form w tidy apart right =
-    chosen-comes (lines.Group cak ckn) form (is_none w.kept.chosen.group) w tidy right.allowed
-deed-comes (lines.Station name sci priority) form w tidy apart right = (
-  tidy-same w (record w.kept { begun = true }) tidy refl refl refl refl refl
-      (λ e. absurd (let bad : true ≡ false = e in cc)) (λ e. e),
-  λ tidy_v. (
-    (let both = or-none (where_ (is_in name (names_of w.run)) kinds.NameTaken) _ right.words in
-        new-station name sci.0 (stations w.run) (where-none _ kinds.NameTaken both.0)
-        (where-none _ kinds.SciTaken both.1)),
-    apart,
-  ),
-)
-deed-comes (lines.Tick rounds) form w tidy apart right = comes-rounds rounds w tidy
-deed-comes (lines.TickOne name ticks) form w tidy apart right =
-    comes-ticks (place w name) ticks w tidy (known name w right.words)
-deed-comes (lines.Flow rounds) form w tidy apart right = comes-flow rounds w tidy
-deed-comes (lines.Deliver frame name) form w tidy apart right =
-    let both = or-none (no_frame frame (length w.kept.frames)) _ right.words in
-    ((known name w both.1, on-air frame w tidy both.0), tt)
-deed-comes (lines.Feed first last name) form w tidy apart right =
-    let count = length w.kept.frames in
-    let outer = or-none (no_frame first count) _ right.words in
-    let inner = or-none (no_frame last count) _ outer.1 in
-    let low = (numbered-in first count outer.0).0 in
-    let high = (numbered-in last count inner.0).1 in
-    let there = known name w inner.1 in
-    comes-span lasts (λ k. happen (events.Deliver (first + k) (place w name))) 0 (last + 1 - first) w tidy
-    (λ k v ge below l tidy_v. (
-      (
-        omega (arith, there, l.count),
-        l.frames (first + k)
-            (within-air (first + k) w tidy (omega (arith, low)) (omega (arith, below, high))),
-      ),
-      tt,
-    ))
-deed-comes (lines.Spread frame) form w tidy apart right =
-    comes-spread frame w tidy (on-air frame w tidy right.words)
-deed-comes (lines.Lose frame) form w tidy apart right = tidy-marked frame w tidy
-deed-comes (lines.Cut from to) form w tidy apart right = tidy-same w _ tidy refl refl refl refl refl (λ e. e) (λ e. e)
-deed-comes (lines.Mend from to) form w tidy apart right = tidy-same w _ tidy refl refl refl refl refl (λ e. e) (λ e. e)
-deed-comes (lines.Restart name) form w tidy apart right = (known name w right.words, tt)
-deed-comes (lines.Send name destination body) form w tidy apart right =
-    let user : UserFrame = record { destination = destination; body = body } in
-    let is_user : IsUserFrame user = record {
-      destination = (form.fits.1.0.0, bytes-all destination.0 form.fits.1.0.1);
-      body = (form.fits.1.1.0.0, form.fits.1.1.0.1);
-      octets = bytes-all body form.fits.1.1.0.2;
-    } in
-    exceeded-comes (over_excess (is_over w 1 1)) (seq (add_user user) (send (place w name))) w
-    (send-comes (place w name) user w tidy is_user apart (known name w right.words))
-deed-comes (lines.Inject name octets) form w tidy apart right = (
-  (known name w right.words, (let few : length octets ≤ 1600 = form.fits.1.0.1 in omega arith)),
-  tt,
-)
-deed-comes lines.Race form w tidy apart right = tidy-entered w (Bursting []) tidy (sym apart)
-deed-comes _ form w tidy apart right = tidy-same w _ tidy refl refl refl refl refl (λ e. e) (λ e. e)
-
--- what a line performs outside a race
-pub apart-comes : (line : Line) → IsInForm line → (w : World) → IsTidy w
-    → is_racing w.kept.phase ≡ false → Comes (act_apart line) w
-apart-comes line form w tidy apart =
-    refused-comes (refusal_apart line w) (deed line w) w
-    (λ e. deed-comes line form w tidy apart (is-right line w e))

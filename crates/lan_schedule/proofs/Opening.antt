@@ -25,13 +25,14 @@ use Rattle.trace_acts.specs.Supply.{draw_at, supply_nth}
 use Rattle.trace_acts.specs.Settings.{settings_of, lag_of, rule_of, unkeyed}
 use Rattle.trace_acts.specs.Kinds.{first_of, is_allowed}
 use Rattle.trace_acts.specs.Choosing.{chosen_by}
-use Rattle.trace_acts.specs.Places.{is_elsewhere, is_race, IsStation}
-use Rattle.trace_acts.proofs.Public.{chosen-draws, station-later}
+use Rattle.trace_acts.specs.Places.{is_race, IsStation}
+use Rattle.trace_acts.proofs.Public.{chosen-draws}
 use Rattle.lan_schedule.specs.declared.stage.Stage.{Stage}
 use Rattle.lan_schedule.specs.declared.commands.Replay.{Replay}
 use Rattle.lan_schedule.specs.Races.{Phase, Apart, Chance, behind_numbers}
 use Rattle.lan_schedule.specs.World.{World, Kept, nothing_kept, is_racing}
 use Rattle.lan_schedule.specs.Acts.{Act, BeginsAt, IsOnWay, look, perform, Stops}
+use Rattle.lan_schedule.specs.Deeds.{deed_in}
 use Rattle.lan_schedule.specs.Kinds.{wrong_word, refusal}
 use Rattle.lan_schedule.specs.Lines.{choose, deed, deed_at, act_of, unless_refused}
 use Rattle.lan_schedule.specs.Sound.{IsTidy}
@@ -40,10 +41,10 @@ use Rattle.lan_schedule.specs.Ends.{Moment, moment}
 use Rattle.lan_schedule.specs.Standing.{Counts, IsNamed, IsStaged, StandsFor, Does}
 use Rattle.lan_schedule.specs.Stages.{StandsFor as StageStandsFor}
 use Rattle.lan_schedule.specs.inside.Staged.{Did, IsOpening}
-use Rattle.lan_schedule.proofs.LinesCome.{IsRight, deed-comes, tidy-same, tidy-unbegun}
+use Rattle.lan_schedule.proofs.LinesCome.{IsRight, tidy-same, tidy-unbegun}
 use Rattle.lan_schedule.proofs.Doing.{told-none}
 use Rattle.lan_schedule.proofs.OnWay.{IsAs, as-self}
-use Rattle.lan_schedule.proofs.Still.{still-deed}
+use Rattle.lan_schedule.proofs.EachDeed.{deed-comes, still-deed}
 use Rattle.lan_schedule.proofs.Replaying.{memory-any, never-does, same-act, stands-counts}
 use Rattle.lan_schedule.proofs.Replaying.{unbegun-does, opened-does}
 
@@ -103,22 +104,10 @@ pub station-no-race : (line : Line) → IsStation line → is_race line ≡ fals
 station-no-race lines.Race station = absurd station
 station-no-race _ station = refl
 
-pub station-is-later : (line : Line) → IsStation line → is_elsewhere line ≡ false
-station-is-later line station = station-later line station
-
 -- the first reason before any station
 pub unbegun-reason : (line : Line) (chosen : Choices)
-    → first_of (is_allowed line false chosen) (wrong_word line [] [] 0)
+    → first_of (is_allowed line false chosen) (wrong_word (deed_in line []) [] [] 0)
     ≡ first_of (is_allowed line false chosen) None
-unbegun-reason (lines.TickOne name ticks) chosen = refl
-unbegun-reason (lines.Deliver frame name) chosen = refl
-unbegun-reason (lines.Spread frame) chosen = refl
-unbegun-reason (lines.Lose frame) chosen = refl
-unbegun-reason (lines.Cut from to) chosen = refl
-unbegun-reason (lines.Mend from to) chosen = refl
-unbegun-reason (lines.Restart name) chosen = refl
-unbegun-reason (lines.Send name destination body) chosen = refl
-unbegun-reason (lines.Inject name octets) chosen = refl
 unbegun-reason lines.Race chosen = refl
 unbegun-reason _ chosen = refl
 
@@ -148,34 +137,12 @@ pub chosen-deed : (line : Line) (chosen : Choices) → is_allowed line false cho
     → deed line w ≡ choose (chosen_by line)
 chosen-deed (lines.Station name sci priority) chosen allowed other w =
     absurd (other name sci priority refl)
-chosen-deed (lines.Tick rounds) chosen allowed other w = absurd (cc allowed)
-chosen-deed (lines.TickOne name ticks) chosen allowed other w = absurd (cc allowed)
-chosen-deed (lines.Flow rounds) chosen allowed other w = absurd (cc allowed)
-chosen-deed (lines.Deliver frame name) chosen allowed other w = absurd (cc allowed)
-chosen-deed (lines.Feed first last name) chosen allowed other w = absurd (cc allowed)
-chosen-deed (lines.Spread frame) chosen allowed other w = absurd (cc allowed)
-chosen-deed (lines.Lose frame) chosen allowed other w = absurd (cc allowed)
-chosen-deed (lines.Cut from to) chosen allowed other w = absurd (cc allowed)
-chosen-deed (lines.Mend from to) chosen allowed other w = absurd (cc allowed)
-chosen-deed (lines.Restart name) chosen allowed other w = absurd (cc allowed)
-chosen-deed (lines.Send name destination body) chosen allowed other w = absurd (cc allowed)
-chosen-deed (lines.Inject name octets) chosen allowed other w = absurd (cc allowed)
-chosen-deed lines.Race chosen allowed other w = absurd (cc allowed)
-chosen-deed _ chosen allowed other w = refl
+chosen-deed _ chosen allowed other w = cc allowed
 
 -- a line leaves the name of a group what it may be
 named-stays : (line : Line) → IsInForm line → (chosen : Choices) → IsNamed chosen.group
     → IsNamed (chosen_by line chosen).group
 named-stays (lines.Group cak ckn) form chosen named = (form.fits.1.0.0, form.fits.1.0.1)
-named-stays lines.DrawsCount form chosen named = named
-named-stays (lines.DrawsChaCha key) form chosen named = named
-named-stays (lines.DrawsList values) form chosen named = named
-named-stays (lines.Conf conf) form chosen named = named
-named-stays (lines.Window window) form chosen named = named
-named-stays (lines.Rekey rekey) form chosen named = named
-named-stays (lines.Lag lag) form chosen named = named
-named-stays (lines.Suite suite) form chosen named = named
-named-stays (lines.Flag early) form chosen named = named
 named-stays _ form chosen named = named
 
 -- so it has no wrong length

@@ -3,10 +3,12 @@ use Rattle.std.proofs.Common.{◌≡◌, ◌+◌, ℕ, Bool, true, false, List, 
 use Rattle.std.proofs.Common.{Option, Some, None, inl, inr, refl, sym, ap, ◌∙◌}
 use Rattle.std.proofs.Common.{subst, arith}
 use Rattle.std.proofs.lemmas.Bool.{cases_Bool, eqb-true}
-use Rattle.std.specs.Prelude.{◌||◌, not, nat_lt, nat_eq, ◌<◌, ◌≤◌, ◌==◌, ◌∷◌, ◌++◌, length, map, Result, Ok, Err}
+use Rattle.std.specs.Prelude.{◌||◌, ◌&&◌, ◌⊎◌, not, nat_lt, ◌<◌, ◌≤◌, ◌==◌, ◌∷◌, ◌++◌, length, map}
+use Rattle.std.specs.Prelude.{IfOk, IfErr, IfSome, Result, Ok, Err}
+use Rattle.std.specs.Result.{IsErrAnd}
+use Rattle.std.proofs.lemmas.Result.{err_from_is_err_and}
 use Rattle.std.specs.List.{AllByRecursion, filter}
 use Rattle.std.proofs.lemmas.List.Sums.{sum_by-cons}
-use Rattle.std.specs.Cmp.Lexicographic.{pointwise}
 use Rattle.lan_base.specs.declared.address.Mac.{Mac}
 use Rattle.trace_text.specs.declared.line.Line.{Line}
 use Rattle.trace_text.specs.declared.line.Line.TheVariants as lines
@@ -15,43 +17,42 @@ use Rattle.trace_acts.specs.declared.halt.Halt.TheVariants as halts
 use Rattle.trace_acts.specs.declared.halt.Kind.{Kind}
 use Rattle.trace_acts.specs.declared.halt.Kind.TheVariants as kinds
 use Rattle.lan_base.specs.declared.sink.Unwritten.{Unwritten}
-use Rattle.trace_acts.specs.Names.{names_of, is_in}
-use Rattle.trace_acts.specs.Kinds.{or_else, where_, first_of, unknown}
+use Rattle.trace_acts.specs.Names.{names_of}
+use Rattle.trace_acts.specs.Kinds.{or_else, where_, first_of}
 use Rattle.trace_acts.specs.Places.{is_race}
-use Rattle.trace_acts.proofs.Public.{bytes-all, place-there, where-none as where-not}
+use Rattle.trace_acts.proofs.Public.{bytes-all, where-none as where-not}
 use Rattle.lan_schedule.specs.declared.phase.Phase.{Phase as Stood}
 use Rattle.lan_schedule.specs.declared.stage.Stage.{Stage}
 use Rattle.lan_schedule.specs.declared.commands.Replay.{Replay}
 use Rattle.lan_schedule.specs.Races.{Phase, Apart, Bursting, Controlling, Racing, Chance}
 use Rattle.lan_schedule.specs.Races.{Burst, Numbered, behind_numbers, workers_at}
 use Rattle.lan_schedule.specs.World.{World, settings, is_racing, place}
-use Rattle.lan_schedule.specs.Acts.{Act, Goes, Stops, look, perform}
-use Rattle.lan_schedule.specs.Kinds.{may_stand, wrong_at}
-use Rattle.lan_schedule.specs.Kinds.{is_control, is_control_allowed, refusal, too_many}
-use Rattle.lan_schedule.specs.Kinds.{is_burst_allowed, wrong_name}
-use Rattle.trace_text.specs.Limits.{most_workers}
+use Rattle.lan_schedule.specs.Acts.{Act, Goes, look, perform}
+use Rattle.trace_text.specs.Limits.{most_control, most_workers}
+use Rattle.lan_schedule.specs.declared.deed.Deed.{Deed}
+use Rattle.lan_schedule.specs.Deeds.{IsInRange, burst_of, deed_of, kept_line, may_control}
+use Rattle.lan_schedule.specs.Kinds.{is_burst_allowed, is_control_allowed}
+use Rattle.lan_schedule.specs.Kinds.{no_station, refusal, too_many, wrong_burst, wrong_control}
 use Rattle.lan_schedule.specs.Lines.{act_of, deed, deed_at, deed_controlling, enter, run_race}
-use Rattle.lan_schedule.specs.Lines.{unless_refused, behind_while, behind_race, burst_of, kept_line}
+use Rattle.lan_schedule.specs.Lines.{unless_refused, behind_while, behind_race}
 use Rattle.lan_schedule.specs.Reports.{Report}
 use Rattle.lan_schedule.specs.Ends.{Moment, IsReached, Ends}
 use Rattle.lan_schedule.specs.Standing.{phase_of, AreFit, IsBurst, IsControl, IsStaged, HasTally, StandsFor, Counts, Does, replays}
 use Rattle.lan_schedule.specs.Stages.{Says, StandsFor as StageStandsFor}
-use Rattle.lan_schedule.specs.inside.Phased.{is_inside, is_taken, is_end, behind, MayBeKept, Takes}
+use Rattle.lan_schedule.specs.inside.Phased.{Enters, Refused, Takes, behind, is_end, is_inside}
+use Rattle.lan_schedule.specs.inside.Phased.{is_taken, refusal_at, refused_burst, refused_control}
 use Rattle.lan_schedule.specs.Woven.{is_controlling, race_in}
 use Rattle.lan_schedule.specs.inside.Phased.{act_apart}
 use Rattle.lan_core.specs.Types.{IsUserFrame}
 use Rattle.trace_text.specs.Writing.{IsInForm}
 use Rattle.lan_schedule.proofs.Doing.{told-none, ends-memory}
-use Rattle.lan_schedule.proofs.LinesCome.{tidy-entered}
+use Rattle.lan_schedule.proofs.LinesCome.{and-true, tidy-entered}
+use Rattle.lan_schedule.proofs.EachDeed.{in-range}
 use Rattle.lan_schedule.proofs.OnWay.{IsAs, as-self}
 use Rattle.lan_schedule.proofs.Replaying.{stood-apart}
 use Rattle.lan_schedule.proofs.Performing.{Places, place-is}
 
 -- ---- why a line is refused
-
--- the first reason where the lines stand so
-abbrev pub refusal_at : Line → World → Phase → Option Kind
-refusal_at line w phase = first_of (may_stand line w phase) (wrong_at line w phase)
 
 refused-where : (line : Line) (w : World) (phase : Phase) → w.kept.phase ≡ phase
     → refusal_at line w phase ≡ refusal line w
@@ -65,36 +66,30 @@ where-none : (test : Bool) (kind : Kind) → where_ (not test) kind ≡ None →
 where-none true kind e = refl
 where-none false kind e = absurd (cc e)
 
-allowed-control : (line : Line) (bursts : List Burst) (control : List Numbered)
-    → is_end (Controlling bursts control) line ≡ false → is_control_allowed line control ≡ true → is_control line ≡ true
-allowed-control lines.End bursts control can allowed = absurd (cc can)
-allowed-control (lines.Tick rounds) bursts control can allowed = refl
-allowed-control (lines.TickOne name ticks) bursts control can allowed = refl
-allowed-control (lines.Flow rounds) bursts control can allowed = refl
-allowed-control (lines.Deliver frame name) bursts control can allowed = refl
-allowed-control (lines.Spread frame) bursts control can allowed = refl
-allowed-control (lines.Lose frame) bursts control can allowed = refl
-allowed-control (lines.Cut from to) bursts control can allowed = refl
-allowed-control (lines.Mend from to) bursts control can allowed = refl
-allowed-control (lines.Restart name) bursts control can allowed = refl
-allowed-control (lines.Inject name octets) bursts control can allowed = refl
-allowed-control _ bursts control can allowed = absurd (cc allowed)
+-- a line that begins a race isn't refused outside of one
+pub race-allowed : (line : Line) (w : World) (stage : Stage) → StageStandsFor w stage
+    → is_race line ≡ true → refusal_at line w Apart ≡ None
+race-allowed lines.Race w stage stands is = rw stands.begun refl
+race-allowed _ w stage stands is = absurd (cc is)
 
--- what isn't refused may be kept
-may-be-kept : (line : Line) (w : World) (phase : Phase) → is_end phase line ≡ false
-    → refusal_at line w phase ≡ None → MayBeKept phase line
-may-be-kept line w Apart goes none = tt
-may-be-kept line w (Bursting bursts) goes none = tt
-may-be-kept line w (Controlling bursts control) goes none =
-    let both = or-none (where_ (not (is_control_allowed line control)) kinds.Order) _ none in
-    allowed-control line bursts control goes
-    (where-none (is_control_allowed line control) kinds.Order both.0)
-may-be-kept line w Racing goes none = tt
+-- no other line than these may stand behind `race`
+pub burst-order : (line : Line) (w : World) (bursts : List Burst) → (line ≡ lines.While → ⊥)
+    → ((x : _) (x' : _) (x'' : _) (y : _) (y' : _) → line ≡ lines.Burst x x' x'' y y' → ⊥)
+    → refusal_at line w (Bursting bursts) ≡ Some kinds.Order
+burst-order lines.While w bursts a b = absurd (a refl)
+burst-order (lines.Burst x x' x'' y y') w bursts a b = absurd (b x x' x'' y y' refl)
+burst-order _ w bursts a b = refl
 
-pub kept-where : (line : Line) (w : World) (phase : Phase) → w.kept.phase ≡ phase
-    → is_end phase line ≡ false → refusal line w ≡ None → MayBeKept phase line
-kept-where line w phase is goes none =
-    may-be-kept line w phase goes (refused-where line w phase is ∙ none)
+-- behind `while` a line is refused by its deed
+control-reason : (line : Line) (w : World) (bursts : List Burst) (control : List Numbered)
+    (o : Option Deed) → is_end (Controlling bursts control) line ≡ false → deed_of line w ≡ o
+    → refusal_at line w (Controlling bursts control)
+    ≡ first_of (may_control o && nat_lt (length control) most_control)
+    (wrong_control o (names_of w.run))
+control-reason lines.End w bursts control o goes is = absurd (cc goes)
+control-reason line w bursts control o goes is =
+    ap (λ (d : Option Deed). first_of (may_control d && nat_lt (length control) most_control)
+    (wrong_control d (names_of w.run))) is
 
 -- ---- where the lines stand behind it
 
@@ -136,16 +131,28 @@ burst-user name workers frames destination body form = record {
   octets = bytes-all body form.fits.1.1.1.1.0.2;
 }
 
-named-there : (w : World) (name : List ℕ) → unknown name (names_of w.run) ≡ None
-    → place w name < length (names_of w.run)
-named-there w name none = place-there (pointwise nat_eq name) (names_of w.run)
-    (where-none (is_in name (names_of w.run)) kinds.NameUnknown none)
+there : (s : ℕ) (names : List (List ℕ)) → no_station s names ≡ None → s < length names
+there s names none =
+    let lt : nat_lt s (length names) ≡ true = where-none (nat_lt s (length names)) kinds.NameUnknown none in
+    grind (arith, lt)
 
-burst-fit : (line : Line) (w : World) → IsInForm line → wrong_name line (names_of w.run) ≡ None
+burst-fit : (line : Line) (w : World) (bursts : List Burst) → IsInForm line
+    → wrong_burst (burst_of w line) bursts (names_of w.run) ≡ None
     → AllByRecursion (IsBurst (names_of w.run)) (burst_of w line)
-burst-fit (lines.Burst name workers frames destination body) w form none =
-    (record { station = named-there w name none; user = burst-user _ _ _ _ _ form }, tt)
-burst-fit _ w form none = tt
+burst-fit (lines.Burst name workers frames destination body) w bursts form none =
+    let both = or-none (too_many (record {
+      station = place w name;
+      workers = workers;
+      frames = frames;
+      user = record { destination = destination; body = body };
+    }) bursts) _ none in (
+      record {
+        station = there (place w name) (names_of w.run) both.1;
+        user = burst-user name workers frames destination body form;
+      },
+      tt,
+    )
+burst-fit _ w bursts form none = tt
 
 -- and no station has too many workers
 at-append : (s : ℕ) (xs ys : List Burst) → workers_at s (xs ++ ys) ≡ workers_at s xs + workers_at s ys
@@ -161,8 +168,8 @@ at-append s (b ∷ bs) ys = elim (cases_Bool (b.station == s)) [
   | inr other ↦ (let rest = at-append s bs ys in rw other (omega (arith, rest)))
 ]
 
-burst-few : (line : Line) (w : World) (bursts : List Burst) → too_many line w bursts ≡ None
-    → ((s : ℕ) → workers_at s bursts ≤ most_workers)
+burst-few : (line : Line) (w : World) (bursts : List Burst)
+    → wrong_burst (burst_of w line) bursts (names_of w.run) ≡ None → ((s : ℕ) → workers_at s bursts ≤ most_workers)
     → (s : ℕ) → workers_at s (bursts ++ burst_of w line) ≤ most_workers
 burst-few (lines.Burst name workers frames destination body) w bursts none few s =
     let b : Burst = record {
@@ -176,7 +183,8 @@ burst-few (lines.Burst name workers frames destination body) w bursts none few s
     elim (cases_Bool (place w name == s)) [
       | inl same ↦ (
           let low : nat_lt most_workers (workers_at (place w name) bursts + workers) ≡ false =
-          where-not (nat_lt most_workers (workers_at (place w name) bursts + workers)) kinds.Range none in
+          where-not (nat_lt most_workers (workers_at (place w name) bursts + workers)) kinds.Range
+          (or-none (too_many b bursts) _ none).0 in
           let here : workers_at s (b ∷ []) ≡ workers = rw same (omega arith) in
           let these : workers_at (place w name) bursts ≡ workers_at s bursts =
           ap (λ (n : ℕ). workers_at n bursts) (eqb-true (place w name) s same) in
@@ -190,36 +198,44 @@ burst-few line w bursts none few s =
     let both = at-append s bursts [] in let had = few s in omega (arith, both, had)
 
 race-fit : (line : Line) (w : World) (bursts : List Burst) → IsInForm line
-    → too_many line w bursts ≡ None
-    → wrong_name line (names_of w.run) ≡ None → AreFit (names_of w.run) (Bursting bursts)
+    → wrong_burst (burst_of w line) bursts (names_of w.run) ≡ None
+    → AreFit (names_of w.run) (Bursting bursts)
     → AreFit (names_of w.run) (behind_race line w bursts)
-race-fit lines.While w bursts form low none fit = (fit, tt)
-race-fit line w bursts form low none fit = record {
+race-fit lines.While w bursts form none fit = (fit, tt)
+race-fit line w bursts form none fit = record {
   each = all-more (IsBurst (names_of w.run)) bursts (burst_of w line) fit.each
-      (burst-fit line w form none);
-  few = burst-few line w bursts low fit.few;
+      (burst-fit line w bursts form none);
+  few = burst-few line w bursts none fit.few;
 }
+
+may-be-kept : (line : Line) (w : World) (bursts : List Burst) (control : List Numbered)
+    → is_end (Controlling bursts control) line ≡ false → is_control_allowed line w control ≡ true
+    → may_control (deed_of line w) ≡ true
+may-be-kept lines.End w bursts control goes allowed = absurd (cc goes)
+may-be-kept line w bursts control goes allowed =
+    (and-true (may_control (deed_of line w)) (nat_lt (length control) most_control) allowed).0
+
+kept-fit : (w : World) (names : List (List ℕ)) (o : Option Deed) → IfSome o IsInRange
+    → may_control o ≡ true → wrong_control o names ≡ None
+    → AllByRecursion (IsControl names) (kept_line w o)
+kept-fit w names None ranges control none = tt
+kept-fit w names (Some d) ranges control none =
+    (record { ranges = ranges; control = control; stations = none }, tt)
 
 behind-fit : (line : Line) (w : World) (phase : Phase) → IsInForm line
     → is_end phase line ≡ false → refusal_at line w phase ≡ None
     → AreFit (names_of w.run) phase → AreFit (names_of w.run) (behind line w phase)
 behind-fit line w Apart form goes none fit = record { each = tt; few = λ s. omega arith }
 behind-fit line w (Bursting bursts) form goes none fit =
-    let words = (or-none (where_ (not (is_burst_allowed line bursts)) kinds.Order) _ none).1 in
-    let both = or-none (too_many line w bursts) _ words in
-    race-fit line w bursts form both.0 both.1 fit
+    race-fit line w bursts form
+    (or-none (where_ (not (is_burst_allowed line bursts)) kinds.Order) _ none).1 fit
 behind-fit line w (Controlling bursts control) form goes none fit =
-    let both = or-none (where_ (not (is_control_allowed line control)) kinds.Order) _ none in (
+    let both = or-none (where_ (not (is_control_allowed line w control)) kinds.Order) _ none in (
       fit.0,
-      all-more (IsControl (names_of w.run)) control (kept_line w line ∷ []) fit.1 (
-        record {
-          form = form;
-          control = allowed-control line bursts control goes
-              (where-none (is_control_allowed line control) kinds.Order both.0);
-          named = both.1;
-        },
-        tt,
-      ),
+      all-more (IsControl (names_of w.run)) control (kept_line w (deed_of line w)) fit.1
+          (kept-fit w (names_of w.run) (deed_of line w) (in-range line (names_of w.run) form)
+          (may-be-kept line w bursts control goes
+          (where-none (is_control_allowed line w control) kinds.Order both.0)) both.1),
     )
 behind-fit line w Racing form goes none fit = tt
 
@@ -238,12 +254,154 @@ takes-none line w old now stands form taken goes none is = (
       (subst (λ (p : Phase). AreFit (names_of w.run) p) stands fit)),
 )
 
-pub takes-some : (line : Line) (w : World) (now : Stood) (stage : Stage) (kind : Kind)
-    → StageStandsFor w stage → refusal line w ≡ Some kind
-    → Takes line w now (Err (halts.Trace stage.line kind))
-takes-some line w now stage kind stands some =
-    inl (ap (λ (o : Option Kind). perform (unless_refused o (deed_at line w w.kept.phase)) w) some
-    ∙ ap (λ (n : ℕ). Stops w (halts.Trace n kind)) (sym stands.line))
+takes-some : (line : Line) (w : World) (now : Stood) (kind : Kind) → refusal line w ≡ Some kind
+    → Takes line w now (Err (halts.Trace w.kept.line kind))
+takes-some line w now kind some =
+    inl (ap (λ (o : Option Kind). perform (unless_refused o (deed_at line w w.kept.phase)) w) some)
+
+-- a line that enters where the lines stand behind it is taken
+pub enters-ok : (line : Line) (w : World) (old now : Stood) → w.kept.phase ≡ phase_of old
+    → IsInForm line → is_taken (phase_of old) line ≡ true → is_end (phase_of old) line ≡ false
+    → Enters line w (phase_of old) (Ok now) → Takes line w now (Ok tt)
+enters-ok line w old now stands form taken goes enters =
+    takes-none line w old now stands form taken goes
+    (sym (refused-where line w (phase_of old) stands) ∙ enters.0) enters.1
+
+enters-err : (line : Line) (w : World) (old now : Stood) (halt : Halt)
+    → w.kept.phase ≡ phase_of old → Enters line w (phase_of old) (Err halt)
+    → Takes line w now (Err halt)
+enters-err line w old now halt stands (inl refused) =
+    subst (λ (h : Halt). Takes line w now (Err h)) (sym refused.halts)
+    (takes-some line w now refused.kind
+    (sym (refused-where line w (phase_of old) stands) ∙ refused.is))
+enters-err line w old now halt stands (inr memory) = inr memory
+
+-- ---- what a group at work says of a line of a race
+
+-- a line that isn't allowed here
+pub refused-order : (line : Line) (w : World) (phase : Phase) (stage : Stage)
+    → StageStandsFor w stage → refusal_at line w phase ≡ Some kinds.Order
+    → Enters line w phase (Err (halts.Trace stage.line kinds.Order))
+refused-order line w phase stage stands is = inl (record {
+  kind = kinds.Order;
+  is = is;
+  halts = ap (λ (n : ℕ). halts.Trace n kinds.Order) stands.line;
+})
+
+-- the same reason
+refused-same : (a b : Option Kind) (m n : ℕ) (halt : Halt) → a ≡ b → m ≡ n → Refused a m halt
+    → Refused b n halt
+refused-same a b m n halt reason number refused = record {
+  kind = refused.kind;
+  is = sym reason ∙ refused.is;
+  halts = refused.halts ∙ ap (λ (k : ℕ). halts.Trace k refused.kind) number;
+}
+
+refused-or : (a b : Option Kind) (m n : ℕ) (halt : Halt) → a ≡ b → m ≡ n
+    → Refused a m halt ⊎ (halt ≡ halts.Memory) → Refused b n halt ⊎ (halt ≡ halts.Memory)
+refused-or a b m n halt reason number (inl refused) =
+    inl (refused-same a b m n halt reason number refused)
+refused-or a b m n halt reason number (inr memory) = inr memory
+
+module _ (name : List ℕ) (workers frames : ℕ) (destination : Mac) (body : List ℕ) (w : World)
+    (stage : Stage) (bursts : List Burst) (s : ℕ) where
+  abbrev burst_at : ℕ → Burst
+  burst_at s = record {
+    station = s;
+    workers = workers;
+    frames = frames;
+    user = record { destination = destination; body = body };
+  }
+
+  burst-reason : IsReached StageStandsFor w stage → Places stage name s
+      → refused_burst (burst_at s) bursts stage.lan.names
+      ≡ refusal_at (lines.Burst name workers frames destination body) w (Bursting bursts)
+  burst-reason reached places =
+      ap (λ (names : List (List ℕ)). refused_burst (burst_at s) bursts names) reached.stands.lan.names
+      ∙ ap (λ (n : ℕ). refused_burst (burst_at n) bursts (names_of w.run))
+      (place-is w stage name s reached.stands reached.tidy places)
+
+  pub burst-enters : (r : Result Stood Halt) → IsReached StageStandsFor w stage
+      → Places stage name s
+      → IfOk r (λ now. (phase_of now ≡ Bursting (bursts ++ burst_at s ∷ []))
+      × (refused_burst (burst_at s) bursts stage.lan.names ≡ None))
+      → IfErr r (λ halt. Refused (refused_burst (burst_at s) bursts stage.lan.names) stage.line halt
+      ⊎ (halt ≡ halts.Memory))
+      → Enters (lines.Burst name workers frames destination body) w (Bursting bursts) r
+  burst-enters (Ok now) reached places kept refused = (
+    sym (burst-reason reached places) ∙ kept.1,
+    kept.0 ∙ ap (λ (n : ℕ). Bursting (bursts ++ burst_at n ∷ []))
+        (place-is w stage name s reached.stands reached.tidy places),
+  )
+  burst-enters (Err halt) reached places kept refused =
+      refused-or _ _ _ _ halt (burst-reason reached places) reached.stands.line refused
+
+-- `while` may stand behind a burst
+pub while-order : (w : World) (bursts : List Burst) → length bursts ≡ 0
+    → refusal_at lines.While w (Bursting bursts) ≡ Some kinds.Order
+while-order w [] none = refl
+while-order w (b ∷ bursts) none = absurd (omega arith)
+
+pub while-allowed : (w : World) (bursts : List Burst) → 0 < length bursts
+    → refusal_at lines.While w (Bursting bursts) ≡ None
+while-allowed w bursts some =
+    let lt : nat_lt 0 (length bursts) ≡ true = grind (arith, some) in
+    ap (λ (b : Bool). first_of b None) lt
+
+-- an error that `?` hands on
+pub enters-handed : (line : Line) (w : World) (phase : Phase) (halt : Halt) (r : Result Stood Halt)
+    → Enters line w phase (Err halt) → IsErrAnd r (λ y. y ≡ halt) → Enters line w phase r
+enters-handed line w phase halt r enters is =
+    let p = err_from_is_err_and r is in
+    subst (λ (x : Result Stood Halt). Enters line w phase x)
+    (sym (p.1 ∙ ap (λ (y : Halt). Err y) p.2)) enters
+
+pub takes-handed : (line : Line) (w : World) (old now : Stood) (halt : Halt)
+    (r : Result (Unit {0}) Halt) → w.kept.phase ≡ phase_of old
+    → Enters line w (phase_of old) (Err halt) → IsErrAnd r (λ y. y ≡ halt) → Takes line w now r
+takes-handed line w old now halt r stands enters is =
+    let p = err_from_is_err_and r is in
+    subst (λ (x : Result (Unit {0}) Halt). Takes line w now x)
+    (sym (p.1 ∙ ap (λ (y : Halt). Err y) p.2)) (enters-err line w old now halt stands enters)
+
+module _ (line : Line) (w : World) (stage : Stage) (bursts : List Burst) (control : List Numbered)
+  where
+    pub control-none : IsReached StageStandsFor w stage
+        → is_end (Controlling bursts control) line ≡ false → deed_of line w ≡ None
+        → Enters line w (Controlling bursts control) (Err (halts.Trace stage.line kinds.Order))
+    control-none reached goes none =
+        refused-order line w (Controlling bursts control) stage reached.stands
+        (control-reason line w bursts control None goes none)
+
+    control-some : (d : Deed) → IsReached StageStandsFor w stage
+        → is_end (Controlling bursts control) line ≡ false → deed_of line w ≡ Some d
+        → refused_control d control stage.lan.names
+        ≡ refusal_at line w (Controlling bursts control)
+    control-some d reached goes is =
+        ap (λ (names : List (List ℕ)). refused_control d control names) reached.stands.lan.names
+        ∙ sym (control-reason line w bursts control (Some d) goes is)
+
+    pub control-ok : (d : Deed) (now : Stood) (all : List Numbered) → IsReached StageStandsFor w stage
+        → is_end (Controlling bursts control) line ≡ false → deed_of line w ≡ Some d
+        → phase_of now ≡ Controlling bursts all
+        → (all ≡ control ++ record { number = stage.line; deed = d } ∷ [])
+        × (refused_control d control stage.lan.names ≡ None)
+        → Enters line w (Controlling bursts control) (Ok now)
+    control-ok d now all reached goes is stands kept = (
+      sym (control-some d reached goes is) ∙ kept.1,
+      stands ∙ ap (λ (l : List Numbered). Controlling bursts l)
+          (kept.0
+          ∙ ap (λ (n : ℕ). control ++ record { number = n; deed = d } ∷ []) reached.stands.line
+          ∙ ap (λ (o : Option Deed). control ++ kept_line w o) (sym is)),
+    )
+
+    pub control-err : (d : Deed) (halt : Halt) → IsReached StageStandsFor w stage
+        → is_end (Controlling bursts control) line ≡ false → deed_of line w ≡ Some d
+        → Refused (refused_control d control stage.lan.names) stage.line halt
+        ⊎ (halt ≡ halts.Memory)
+        → Enters line w (Controlling bursts control) (Err halt)
+    control-err d halt reached goes is why =
+        refused-or _ _ _ _ halt (control-some d reached goes is) reached.stands.line why
 
 -- ---- a replay takes such a line
 
@@ -389,24 +547,3 @@ outside-calm Apart e = refl
 outside-calm (Bursting bursts) e = absurd (cc e)
 outside-calm (Controlling bursts control) e = absurd (cc e)
 outside-calm Racing e = absurd (cc e)
-
--- ---- workers
-
-flip : (a b : Bool) → a ≡ not b → not a ≡ b
-flip true true e = absurd (cc e)
-flip true false e = refl
-flip false true e = refl
-flip false false e = absurd (cc e)
-
--- whether a burst has too many
-pub workers-where : (line : Line) (name : List ℕ) (workers frames : ℕ) (destination : Mac)
-    (body : List ℕ) (w : World) (stage : Stage) (bursts : List Burst) (s : ℕ) (few : Bool)
-    → IsReached StageStandsFor w stage
-    → line ≡ lines.Burst name workers frames destination body → Places stage name s
-    → few ≡ not (nat_lt most_workers (workers_at s bursts + workers))
-    → where_ (not few) kinds.Range ≡ too_many line w bursts
-workers-where line name workers frames destination body w stage bursts s few reached is places fits =
-    let at : s ≡ place w name = place-is w stage name s reached.stands reached.tidy places in
-    ap (λ (b : Bool). where_ b kinds.Range) (flip few _ fits
-    ∙ ap (λ (n : ℕ). nat_lt most_workers (workers_at n bursts + workers)) at)
-    ∙ ap (λ (l : Line). too_many l w bursts) (sym is)

@@ -24,6 +24,7 @@ use Rattle.mka_station.specs.Views.{view}
 use Rattle.mka_station.specs.Restart.{ending}
 use Rattle.trace_text.specs.declared.line.Line.{Line}
 use Rattle.trace_text.specs.declared.line.Line.TheVariants as lines
+use Rattle.lan_schedule.specs.declared.deed.Deed.TheVariants as deeds
 use Rattle.trace_acts.specs.declared.halt.Halt.{Halt}
 use Rattle.trace_acts.specs.declared.halt.Halt.TheVariants as halts
 use Rattle.trace_acts.specs.declared.halt.Kind.TheVariants as kinds
@@ -36,7 +37,8 @@ use Rattle.lan_schedule.specs.Races.{Burst, Numbered, Claimed, count_of, workers
 use Rattle.lan_schedule.specs.World.{World, nothing_kept}
 use Rattle.lan_schedule.specs.Numbers.{decided, stands}
 use Rattle.lan_schedule.specs.Acts.{Course, Goes, Stops, perform, and_then, world_of, each}
-use Rattle.lan_schedule.specs.Kinds.{refusal}
+use Rattle.lan_schedule.specs.Deeds.{deed_in}
+use Rattle.lan_schedule.specs.Kinds.{refusal, wrong_word}
 use Rattle.lan_schedule.specs.Lines.{numbered, close, line_after, round_after, run_race}
 
 opens : ℕ
@@ -117,7 +119,7 @@ abbrev by_chance : List Chance
 by_chance = Woven ((claimed_by 1 ∷ []) ∷ (claimed_by 0 ∷ []) ∷ (claimed_by 0 ∷ []) ∷ []) ∷ []
 
 abbrev restart_b : Numbered
-restart_b = record { number = 8; line = lines.Restart (66 ∷ []) }
+restart_b = record { number = 8; deed = deeds.Restart 1 }
 
 abbrev raced : Numbered → Course
 raced line = perform (run_race (burst 0 2 3 2 ∷ []) (line ∷ []) (started by_chance)) (started by_chance)
@@ -153,7 +155,7 @@ apart_again = refl
 -- ---- control that ends early
 
 abbrev deliver_nine : Numbered
-deliver_nine = record { number = 8; line = lines.Deliver 9 (65 ∷ []) }
+deliver_nine = record { number = 8; deed = deeds.Deliver 9 0 }
 
 -- the workers do all their jobs, and the line of control is named
 refused_late : why (raced deliver_nine) ≡ halts.Trace 8 kinds.FrameUnknown ∷ []
@@ -197,18 +199,15 @@ abbrev a_burst : ℕ → List ℕ → Line
 a_burst workers name = lines.Burst name workers 3 all (0 ∷ 0 ∷ [])
 
 -- the lines of a race, behind line 9
-abbrev race_lines : List Numbered
+abbrev race_lines : List (ℕ × Line)
 race_lines =
-    record { number = 10; line = lines.Race }
-    ∷ record { number = 11; line = a_burst 2 (66 ∷ []) }
-    ∷ record { number = 12; line = lines.While }
-    ∷ record { number = 13; line = lines.Deliver 9 (65 ∷ []) }
-    ∷ record { number = 14; line = lines.End } ∷ []
+    (10, lines.Race) ∷ (11, a_burst 2 (66 ∷ [])) ∷ (12, lines.While)
+    ∷ (13, lines.Deliver 9 (65 ∷ [])) ∷ (14, lines.End) ∷ []
 
 -- so many of them, one after the other
 abbrev after_lines : ℕ → Course
 after_lines count =
-    perform (each (λ kept. numbered kept.number kept.line) (take count race_lines)) start
+    perform (each (λ line. numbered line.0 line.1) (take count race_lines)) start
 
 begins_a_race : (world_of (after_lines 1)).kept.phase ≡ Bursting []
 unfolding opens
@@ -219,10 +218,10 @@ keeps_a_burst : (world_of (after_lines 2)).kept.phase ≡ Bursting (burst 1 2 3 
 unfolding opens
 keeps_a_burst = refl
 
--- a line of control has its number
+-- a line of control has its number, and the place of its station
 keeps_a_line : (world_of (after_lines 4)).kept.phase ≡
     Controlling (burst 1 2 3 2 ∷ [])
-    (record { number = 13; line = lines.Deliver 9 (65 ∷ []) } ∷ [])
+    (record { number = 13; deed = deeds.Deliver 9 0 } ∷ [])
 unfolding opens
 keeps_a_line = refl
 
@@ -255,6 +254,29 @@ no_end = refl
 -- and outside one
 ends : why (perform close start) ≡ []
 ends = refl
+
+-- ---- deeds
+
+-- the names of two stations
+abbrev names : List (List ℕ)
+names = (65 ∷ []) ∷ (66 ∷ []) ∷ []
+
+-- a name is a place from 0; one that no station has is a place behind them all
+second_is_named : deed_in (lines.Restart (66 ∷ [])) names ≡ Some (deeds.Restart 1)
+second_is_named = refl
+
+nobody_is_named : deed_in (lines.Restart (90 ∷ [])) names ≡ Some (deeds.Restart 2)
+nobody_is_named = refl
+
+nobody_is_there : wrong_word (Some (deeds.Restart 2)) names [] 0 ≡ Some kinds.NameUnknown
+nobody_is_there = refl
+
+-- of two faults that of the word further left is told
+frame_before_name : wrong_word (Some (deeds.Deliver 9 2)) names [] 0 ≡ Some kinds.FrameUnknown
+frame_before_name = refl
+
+race_is_no_deed : deed_in lines.Race names ≡ None
+race_is_no_deed = refl
 
 -- ---- lines that are refused
 

@@ -23,14 +23,14 @@ use Rattle.lan_core.specs.Stops.{first_stop, is_over_installs, passed, stop_at}
 use Rattle.group_safety.proofs.Public.{r11, r12, v12}
 use Rattle.worker_races.proofs.Public.{legal-after, newest}
 use Rattle.worker_races.proofs.Public.{race}
-use Rattle.trace_text.specs.declared.line.Line.TheVariants as lines
+use Rattle.lan_schedule.specs.declared.deed.Deed.TheVariants as deeds
 use Rattle.trace_acts.specs.Settings.{no_choice}
 use Rattle.lan_schedule.specs.Acts.{Course, Goes, and_then, begun_race, happen, perform, shown, world_of}
 use Rattle.lan_schedule.specs.Answers.{answered, supply}
 use Rattle.lan_schedule.specs.Lines.{at_line}
 use Rattle.lan_schedule.specs.Races.{Chance, Numbered, Worker}
 use Rattle.lan_schedule.specs.Woven.{IsRaceOf, controlled_in}
-use Rattle.lan_schedule.specs.World.{World, nothing_kept, place, settings}
+use Rattle.lan_schedule.specs.World.{World, nothing_kept, settings}
 use Rattle.lan_schedule.specs.declared.frames.Put.{Put}
 
 -- ---- the world
@@ -61,7 +61,7 @@ crew = record { station = 0; jobs = 2; user = user } ∷ record { station = 1; j
 
 -- the frame in which the first station says that it begins the key reaches the second
 abbrev deliver : List Numbered
-deliver = record { number = 12; line = lines.Deliver 5 (66 ∷ []) } ∷ []
+deliver = record { number = 12; deed = deeds.Deliver 5 1 } ∷ []
 
 module _ (chances : List Chance) where
   abbrev begun : World
@@ -71,10 +71,6 @@ module _ (chances : List Chance) where
 
   abbrev event : Event
   event = events.Deliver 5 1
-
-  to-bob : place begun (66 ∷ []) ≡ 1
-  unfolding stations
-  to-bob = refl
 
   passes : (r : Run) → IsWithin r → is_over_installs r ≡ false → passed r ≡ None
   passes r within few =
@@ -105,8 +101,7 @@ module _ (chances : List Chance) where
 
   controls : (controlled_in (w chances) crew deliver).run ≡ r12
   controls =
-      ap (λ (s : ℕ). (world_of (and_then (perform (happen (events.Deliver 5 s)) begun) (λ v. Goes v))).run) to-bob
-      ∙ ap (λ (out : Course). (world_of (and_then out (λ v. Goes v))).run) comes
+      ap (λ (out : Course). (world_of (and_then out (λ v. Goes v))).run) comes
 
   -- ---- the race is that of the world
 

@@ -23,7 +23,8 @@ use Rattle.lan_schedule.specs.Kinds.{refusal, refusal_read}
 use Rattle.lan_schedule.specs.Lines.{control_act, deed, deed_at, deed_controlling, deed_read}
 use Rattle.lan_schedule.specs.Lines.{behind_race, close_at, excess_of, performed, performed_all}
 use Rattle.lan_schedule.specs.Lines.{line_after, unless_exceeded, unless_refused}
-use Rattle.lan_schedule.proofs.Still.{IsStill, still-deed}
+use Rattle.lan_schedule.proofs.Still.{IsStill}
+use Rattle.lan_schedule.proofs.EachDeed.{still-deed}
 
 -- no race was run
 abbrev pub HasNone : World → Type 0

@@ -121,13 +121,14 @@ shows-all w event tidy comes goes =
 
 -- ---- acts that leave aside what was chosen and who sends
 
--- what is kept has the same choices and user frames, and the first station stays
+-- what is kept has the same choices, user frames and races, and the first station stays
 pub record IsAside (old new : Kept) : Type 0 where
   pub chosen : new.chosen ≡ old.chosen
   pub users : new.users ≡ old.users
   pub begun : new.begun ≡ old.begun
   pub raced : new.raced ≡ old.raced
   pub phase : new.phase ≡ old.phase
+  pub races : new.races ≡ old.races
 
 -- an event has fields of their types, where at most so many user frames were sent
 abbrev pub IsFit : ℕ → Event → Type 0
@@ -328,7 +329,14 @@ mild-feed n first last s =
     mild-span n (λ k. happen (events.Deliver (first + k) s)) 0 (last + 1 - first) (λ k. tt)
 
 pub mild-mark : (n number : ℕ) → IsMild n (change (mark number))
-mild-mark n number = λ kept. record { chosen = refl; users = refl; begun = refl; raced = refl; phase = refl }
+mild-mark n number = λ kept. record {
+  chosen = refl;
+  users = refl;
+  begun = refl;
+  raced = refl;
+  phase = refl;
+  races = refl;
+}
 
 pub mild-spread : (n number : ℕ) → IsMild n (spread number)
 mild-spread n number = λ w few.
@@ -336,7 +344,14 @@ mild-spread n number = λ w few.
 
 mild-flow_round : (n : ℕ) → IsMild n flow_round
 mild-flow_round n = (
-  λ kept. record { chosen = refl; users = refl; begun = refl; raced = refl; phase = refl },
+  λ kept. record {
+    chosen = refl;
+    users = refl;
+    begun = refl;
+    raced = refl;
+    phase = refl;
+    races = refl;
+  },
   (mild-round n, λ w few. mild-each n spread (due w) (λ number. mild-spread n number)),
 )
 

@@ -1,23 +1,24 @@
--- Lines of control leave what was chosen, and the user frames.
-use Rattle.std.proofs.Common.{◌≡◌, ℕ, zero, suc, Bool, true, false, List, [], ◌∷◌, refl, ◌∙◌}
+-- Deeds of control leave what was chosen, and the user frames.
+use Rattle.std.proofs.Common.{◌≡◌, ◌≤◌, ◌+◌, ℕ, List, [], ◌∷◌, length, refl, ◌∙◌, arith}
 use Rattle.std.specs.Prelude.{Option, Some, None, Result, Ok, Err}
 use Rattle.std.specs.List.{AllByRecursion}
 use Rattle.lan_core.specs.declared.event.Event.{Event}
 use Rattle.lan_core.specs.declared.fact.Fact.{Fact}
-use Rattle.trace_text.specs.declared.line.Line.{Line}
-use Rattle.trace_text.specs.declared.line.Line.TheVariants as lines
 use Rattle.trace_acts.specs.declared.halt.Halt.{Halt}
 use Rattle.trace_acts.specs.declared.halt.Kind.{Kind}
 use Rattle.lan_schedule.specs.Races.{Numbered}
-use Rattle.lan_schedule.specs.World.{World, Kept, count, sender, place}
+use Rattle.lan_schedule.specs.World.{World, Kept}
 use Rattle.lan_schedule.specs.Answers.{answer}
 use Rattle.lan_schedule.specs.Acts.{Act, nothing, refuse, exceed, happen, change, seq, look, race}
-use Rattle.lan_schedule.specs.Acts.{Course, Goes, Stops, and_then, each, perform, shown, span}
-use Rattle.lan_schedule.specs.Acts.{unless, world_of}
-use Rattle.lan_schedule.specs.Kinds.{is_control, wrong_frame}
-use Rattle.lan_schedule.specs.Lines.{controlled, control_act, deed, due, flow_round, is_passed_by}
-use Rattle.lan_schedule.specs.Lines.{pass, round, spread, tick, unless_refused}
+use Rattle.lan_schedule.specs.Acts.{Course, Goes, Stops, and_then, perform, shown}
+use Rattle.lan_schedule.specs.Acts.{world_of}
+use Rattle.lan_schedule.specs.Kinds.{wrong_frame}
+use Rattle.lan_schedule.specs.Lines.{act, controlled, control_act}
+use Rattle.lan_schedule.specs.Lines.{unless_refused}
+use Rattle.lan_schedule.specs.Standing.{IsControl}
 use Rattle.lan_schedule.specs.inside.Comes.{IsSteady}
+use Rattle.lan_schedule.proofs.EachDeed.{control-mild, mild-act}
+use Rattle.lan_schedule.proofs.Settled.{IsMild}
 
 -- ---- acts that change neither
 
@@ -65,68 +66,45 @@ steady (seq first later) w keeps =
 steady (look act) w keeps = steady (act w) w (keeps w)
 steady (race workers control) w keeps = absurd keeps
 
--- ---- the acts of lines of control
+-- ---- the acts of control
 
-keeps-span : (f : ℕ → Act) (i n : ℕ) → ((k : ℕ) → KeepsChoice (f k)) → KeepsChoice (span f i n)
-keeps-span f i zero keeps = tt
-keeps-span f i (suc n) keeps = (keeps i, keeps-span f (suc i) n keeps)
-
-keeps-each : {A : Type 0} (f : A → Act) (xs : List A) → ((x : A) → KeepsChoice (f x))
-    → KeepsChoice (each f xs)
-keeps-each f [] keeps = tt
-keeps-each f (x ∷ xs) keeps = (keeps x, keeps-each f xs keeps)
-
-keeps-unless : (b : Bool) (act : Act) → KeepsChoice act → KeepsChoice (unless b act)
-keeps-unless true act keeps = tt
-keeps-unless false act keeps = keeps
-
-keeps-round : KeepsChoice round
-keeps-round w = keeps-span tick 0 (count w) (λ k v. tt)
-
-keeps-spread : (number : ℕ) → KeepsChoice (spread number)
-keeps-spread number w = (
-  λ v. keeps-span (pass number (sender w number)) 0 (count v)
-      (λ s u. keeps-unless (is_passed_by u (sender w number) s) _ tt),
-  λ kept. (refl, refl, refl),
+-- a mild act changes neither
+mild-keeps : (a : Act) (m : ℕ) → ((n : ℕ) → m ≤ n → IsMild n a) → KeepsChoice a
+mild-keeps nothing m mild = tt
+mild-keeps (refuse kind) m mild = tt
+mild-keeps (exceed excess) m mild = tt
+mild-keeps (happen event) m mild = tt
+mild-keeps (change f) m mild = λ kept.
+    let aside = mild m (omega arith) kept in (aside.chosen, aside.begun, aside.users)
+mild-keeps (seq first later) m mild = (
+  mild-keeps first m (λ n le. (mild n le).0),
+  mild-keeps later m (λ n le. (mild n le).1),
 )
-
-keeps-flow : KeepsChoice flow_round
-keeps-flow = (
-  λ kept. (refl, refl, refl),
-  (keeps-round, λ w. keeps-each spread (due w) keeps-spread),
-)
-
-keeps-deed : (line : Line) (w : World) → is_control line ≡ true → KeepsChoice (deed line w)
-keeps-deed (lines.Tick rounds) w is = keeps-span (λ _. round) 0 rounds (λ k. keeps-round)
-keeps-deed (lines.TickOne name ticks) w is =
-    keeps-span (λ _. tick (place w name)) 0 ticks (λ k v. tt)
-keeps-deed (lines.Flow rounds) w is = keeps-span (λ _. flow_round) 0 rounds (λ k. keeps-flow)
-keeps-deed (lines.Deliver frame name) w is = tt
-keeps-deed (lines.Spread frame) w is = keeps-spread frame
-keeps-deed (lines.Lose frame) w is = λ kept. (refl, refl, refl)
-keeps-deed (lines.Cut from to) w is = λ kept. (refl, refl, refl)
-keeps-deed (lines.Mend from to) w is = λ kept. (refl, refl, refl)
-keeps-deed (lines.Restart name) w is = tt
-keeps-deed (lines.Inject name octets) w is = tt
-keeps-deed _ w is = absurd (cc is)
+mild-keeps (look f) m mild = λ w. mild-keeps (f w) (m + length w.kept.users)
+    (λ n le. mild n (omega (arith, le)) w (omega (arith, le)))
+mild-keeps (race workers control) m mild = absurd (mild m (omega arith))
 
 keeps-refused : (o : Option Kind) (act : Act) → KeepsChoice act → KeepsChoice (unless_refused o act)
 keeps-refused None act keeps = keeps
 keeps-refused (Some kind) act keeps = tt
 
-keeps-line : (kept : Numbered) → is_control kept.line ≡ true → KeepsChoice (controlled kept)
-keeps-line kept is = (
+keeps-line : (names : List (List ℕ)) (kept : Numbered) → IsControl names kept
+    → KeepsChoice (controlled kept)
+keeps-line names kept is = (
   λ before. (refl, refl, refl),
-  λ w. keeps-refused (wrong_frame kept.line _) (deed kept.line w) (keeps-deed kept.line w is),
+  λ w. keeps-refused (wrong_frame kept.deed _) (act kept.deed)
+      (mild-keeps (act kept.deed) 0
+      (λ n le. mild-act n kept.deed is.ranges (control-mild kept.deed is.control))),
 )
 
-keeps-lines : (control : List Numbered) → AllByRecursion (λ kept. is_control kept.line ≡ true) control
-    → KeepsChoice (control_act control)
-keeps-lines [] all = tt
-keeps-lines (kept ∷ control) all = (keeps-line kept all.0, keeps-lines control all.1)
+keeps-lines : (names : List (List ℕ)) (control : List Numbered)
+    → AllByRecursion (IsControl names) control → KeepsChoice (control_act control)
+keeps-lines names [] all = tt
+keeps-lines names (kept ∷ control) all =
+    (keeps-line names kept all.0, keeps-lines names control all.1)
 
--- where lines of control were performed, what was chosen is so still
-pub control-steady : (control : List Numbered) (w : World)
-    → AllByRecursion (λ kept. is_control kept.line ≡ true) control
+-- where deeds of control were performed, what was chosen is so still
+pub control-steady : (control : List Numbered) (w : World) (names : List (List ℕ))
+    → AllByRecursion (IsControl names) control
     → IsSteady w (world_of (perform (control_act control) w))
-control-steady control w all = steady (control_act control) w (keeps-lines control all)
+control-steady control w names all = steady (control_act control) w (keeps-lines names control all)

@@ -1,6 +1,6 @@
 -- Which line is refused, and the first reason (this profile's own rule).
 use Rattle.std.specs.Prelude.{ℕ, ◌+◌, nat_le, nat_lt, Bool, true, false, not, ◌&&◌}
-use Rattle.std.specs.Prelude.{List, length}
+use Rattle.std.specs.Prelude.{List, [], ◌∷◌, length}
 use Rattle.std.specs.Prelude.{Option, Some, None, Result, Ok, Err}
 use Rattle.trace_text.specs.declared.fault.TextFault.{TextFault}
 use Rattle.trace_text.specs.declared.line.Line.{Line}
@@ -10,10 +10,13 @@ use Rattle.trace_text.specs.Reading.{line_in}
 use Rattle.trace_acts.specs.declared.halt.Kind.{Kind}
 use Rattle.trace_acts.specs.declared.halt.Kind.TheVariants as kinds
 use Rattle.trace_acts.specs.Names.{names_of, scis_of, is_in}
-use Rattle.trace_acts.specs.Kinds.{kind_of_fault, is_allowed, or_else, where_, unknown, first_of}
+use Rattle.trace_acts.specs.Kinds.{kind_of_fault, is_allowed, or_else, where_, first_of}
+use Rattle.lan_schedule.specs.declared.deed.Deed.{Deed}
+use Rattle.lan_schedule.specs.declared.deed.Deed.TheVariants as deeds
 use Rattle.lan_schedule.specs.Races.{Phase, Apart, Bursting, Controlling, Racing, Burst, Numbered}
 use Rattle.lan_schedule.specs.Races.{workers_at}
-use Rattle.lan_schedule.specs.World.{World, place}
+use Rattle.lan_schedule.specs.World.{World}
+use Rattle.lan_schedule.specs.Deeds.{burst_of, deed_of, may_control}
 
 -- ---- order
 
@@ -24,30 +27,17 @@ is_burst_allowed (lines.Burst name workers frames destination body) bursts =
 is_burst_allowed lines.While bursts = nat_lt 0 (length bursts)
 is_burst_allowed _ bursts = false
 
--- whether lines of this form are control's
-abbrev pub is_control : Line → Bool
-is_control (lines.Tick rounds) = true
-is_control (lines.TickOne name ticks) = true
-is_control (lines.Flow rounds) = true
-is_control (lines.Deliver frame name) = true
-is_control (lines.Spread frame) = true
-is_control (lines.Lose frame) = true
-is_control (lines.Cut from to) = true
-is_control (lines.Mend from to) = true
-is_control (lines.Restart name) = true
-is_control (lines.Inject name octets) = true
-is_control _ = false
-
 -- whether a line may stand behind `while`: one of control's, where more may come, and `end`
-abbrev pub is_control_allowed : Line → List Numbered → Bool
-is_control_allowed lines.End control = true
-is_control_allowed line control = is_control line && nat_lt (length control) most_control
+abbrev pub is_control_allowed : Line → World → List Numbered → Bool
+is_control_allowed lines.End w control = true
+is_control_allowed line w control =
+    may_control (deed_of line w) && nat_lt (length control) most_control
 
 -- whether a line may stand where it does
 abbrev pub may_stand : Line → World → Phase → Bool
 may_stand line w Apart = is_allowed line w.kept.begun w.kept.chosen
 may_stand line w (Bursting bursts) = is_burst_allowed line bursts
-may_stand line w (Controlling bursts control) = is_control_allowed line control
+may_stand line w (Controlling bursts control) = is_control_allowed line w control
 may_stand line w Racing = false
 
 -- ---- names, SCIs and frames
@@ -59,57 +49,66 @@ is_number number frames = nat_le 1 number && nat_le number frames
 abbrev pub no_frame : ℕ → ℕ → Option Kind
 no_frame number frames = where_ (not (is_number number frames)) kinds.FrameUnknown
 
--- what is wrong with the words of a line, from the left, where these are the names and the SCIs of
--- the stations, and how many frames the air has
-abbrev pub wrong_word : Line → List (List ℕ) → List (List ℕ) → ℕ → Option Kind
-wrong_word (lines.Station name sci priority) names scis frames =
-    or_else (where_ (is_in name names) kinds.NameTaken)
-    (where_ (is_in sci.0 scis) kinds.SciTaken)
-wrong_word (lines.TickOne name ticks) names scis frames = unknown name names
-wrong_word (lines.Deliver frame name) names scis frames =
-    or_else (no_frame frame frames) (unknown name names)
-wrong_word (lines.Feed first last name) names scis frames =
-    or_else (no_frame first frames) (or_else (no_frame last frames) (unknown name names))
-wrong_word (lines.Spread frame) names scis frames = no_frame frame frames
-wrong_word (lines.Lose frame) names scis frames = no_frame frame frames
-wrong_word (lines.Cut from to) names scis frames = or_else (unknown from names) (unknown to names)
-wrong_word (lines.Mend from to) names scis frames = or_else (unknown from names) (unknown to names)
-wrong_word (lines.Restart name) names scis frames = unknown name names
-wrong_word (lines.Send name destination body) names scis frames = unknown name names
-wrong_word (lines.Inject name octets) names scis frames = unknown name names
-wrong_word _ names scis frames = None
+-- no station stands at a place, where the stations have these names
+abbrev pub no_station : ℕ → List (List ℕ) → Option Kind
+no_station s names = where_ (not (nat_lt s (length names))) kinds.NameUnknown
 
--- what is wrong with the frame of a line of control, where the air has so many
-abbrev pub wrong_frame : Line → ℕ → Option Kind
-wrong_frame (lines.Deliver frame name) frames = no_frame frame frames
-wrong_frame (lines.Spread frame) frames = no_frame frame frames
-wrong_frame (lines.Lose frame) frames = no_frame frame frames
+-- what is wrong with the frames of a deed, where the air has so many
+abbrev pub wrong_frame : Deed → ℕ → Option Kind
+wrong_frame (deeds.Deliver frame s) frames = no_frame frame frames
+wrong_frame (deeds.Feed first last s) frames = or_else (no_frame first frames) (no_frame last frames)
+wrong_frame (deeds.Spread frame) frames = no_frame frame frames
+wrong_frame (deeds.Lose frame) frames = no_frame frame frames
 wrong_frame _ frames = None
 
--- what is wrong with the names of a line of a race; its frame is looked for when it is performed
-abbrev pub wrong_name : Line → List (List ℕ) → Option Kind
-wrong_name (lines.Burst name workers frames destination body) names = unknown name names
-wrong_name (lines.TickOne name ticks) names = unknown name names
-wrong_name (lines.Deliver frame name) names = unknown name names
-wrong_name (lines.Cut from to) names = or_else (unknown from names) (unknown to names)
-wrong_name (lines.Mend from to) names = or_else (unknown from names) (unknown to names)
-wrong_name (lines.Restart name) names = unknown name names
-wrong_name (lines.Inject name octets) names = unknown name names
-wrong_name _ names = None
+-- a station that is to start has a name or an SCI that another has
+abbrev pub taken : Deed → List (List ℕ) → List (List ℕ) → Option Kind
+taken (deeds.Start name sci priority) names scis =
+    or_else (where_ (is_in name names) kinds.NameTaken)
+    (where_ (is_in sci.0 scis) kinds.SciTaken)
+taken _ names scis = None
+
+-- what is wrong with the stations of a deed
+abbrev pub wrong_station : Deed → List (List ℕ) → Option Kind
+wrong_station (deeds.TickOne s ticks) names = no_station s names
+wrong_station (deeds.Deliver frame s) names = no_station s names
+wrong_station (deeds.Feed first last s) names = no_station s names
+wrong_station (deeds.Cut from to) names = or_else (no_station from names) (no_station to names)
+wrong_station (deeds.Mend from to) names = or_else (no_station from names) (no_station to names)
+wrong_station (deeds.Restart s) names = no_station s names
+wrong_station (deeds.Send s user) names = no_station s names
+wrong_station (deeds.Inject s octets) names = no_station s names
+wrong_station _ names = None
+
+-- what is wrong with a deed outside a race, by the words of its line from the left, where these are
+-- the names and the SCIs of the stations, and how many frames the air has
+abbrev pub wrong_word : Option Deed → List (List ℕ) → List (List ℕ) → ℕ → Option Kind
+wrong_word None names scis frames = None
+wrong_word (Some deed) names scis frames =
+    or_else (wrong_frame deed frames) (or_else (taken deed names scis) (wrong_station deed names))
+
+-- what is wrong with one of control's; its frame is looked for when it is performed
+abbrev pub wrong_control : Option Deed → List (List ℕ) → Option Kind
+wrong_control None names = None
+wrong_control (Some deed) names = wrong_station deed names
 
 -- a burst has more workers than its station may still have
-abbrev pub too_many : Line → World → List Burst → Option Kind
-too_many (lines.Burst name workers frames destination body) w bursts =
-    where_ (nat_lt most_workers (workers_at (place w name) bursts + workers)) kinds.Range
-too_many _ w bursts = None
+abbrev pub too_many : Burst → List Burst → Option Kind
+too_many burst bursts =
+    where_ (nat_lt most_workers (workers_at burst.station bursts + burst.workers)) kinds.Range
+
+-- what is wrong with a burst behind these
+abbrev pub wrong_burst : List Burst → List Burst → List (List ℕ) → Option Kind
+wrong_burst [] bursts names = None
+wrong_burst (burst ∷ none) bursts names =
+    or_else (too_many burst bursts) (no_station burst.station names)
 
 -- what is wrong with the words of a line where it stands
 abbrev pub wrong_at : Line → World → Phase → Option Kind
 wrong_at line w Apart =
-    wrong_word line (names_of w.run) (scis_of w.run) (length w.kept.frames)
-wrong_at line w (Bursting bursts) =
-    or_else (too_many line w bursts) (wrong_name line (names_of w.run))
-wrong_at line w (Controlling bursts control) = wrong_name line (names_of w.run)
+    wrong_word (deed_of line w) (names_of w.run) (scis_of w.run) (length w.kept.frames)
+wrong_at line w (Bursting bursts) = wrong_burst (burst_of w line) bursts (names_of w.run)
+wrong_at line w (Controlling bursts control) = wrong_control (deed_of line w) (names_of w.run)
 wrong_at line w Racing = None
 
 -- ---- the first reason

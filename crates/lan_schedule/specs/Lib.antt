@@ -5,14 +5,15 @@
 -- stops in one and says why. What the schedule of threads decides is a list of *chances* in the
 -- world, taken from its head. A *moment* of a call is the value that performs, and the outlet that
 -- is told the reports. What lines choose and name, the draws and the links stand in `trace_acts`.
--- The files stand in this order: what races are, what lines have made, what can be performed, which
--- line is refused, what a line performs, what is sound, what is told, what a call did of an act,
+-- The files stand in this order: what races are, what lines have made, what can be performed, what a
+-- line is, which line is refused, what a line performs, what is sound, what is told, what a call did of an act,
 -- what slot words show, and what a race is woven of.
 pub mod Races
 pub mod World
 pub mod Numbers
 pub mod Answers
 pub mod Acts
+pub mod Deeds
 pub mod Kinds
 pub mod Lines
 pub mod Sound

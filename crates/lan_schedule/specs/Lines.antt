@@ -24,7 +24,10 @@ use Rattle.lan_schedule.specs.declared.frames.Put.{Put}
 use Rattle.lan_schedule.specs.Races.{Phase, Apart, Bursting, Controlling, Racing, Burst, Numbered}
 use Rattle.lan_schedule.specs.Races.{Excess, TooManyFrames, TooManyOctets, frames_asked, octets_asked}
 use Rattle.lan_schedule.specs.Races.{jobs_in, most_claimed, most_users, workers_of}
-use Rattle.lan_schedule.specs.World.{World, Kept, count, place, sender, mark, air_octets}
+use Rattle.lan_schedule.specs.World.{World, Kept, count, sender, mark, air_octets}
+use Rattle.lan_schedule.specs.Deeds.{burst_of, deed_of, kept_line}
+use Rattle.lan_schedule.specs.declared.deed.Deed.{Deed}
+use Rattle.lan_schedule.specs.declared.deed.Deed.TheVariants as deeds
 use Rattle.lan_schedule.specs.Numbers.{number_shown, number_claimed}
 use Rattle.lan_schedule.specs.Acts.{Act, nothing, refuse, happen, change, seq, look, each, span}
 use Rattle.lan_schedule.specs.Acts.{times, unless, exceed, race}
@@ -139,20 +142,6 @@ send_new frame s =
 abbrev pub enter : Phase → Act
 enter phase = change (λ kept. record kept { phase = phase })
 
--- a burst of a line
-abbrev pub burst_of : World → Line → List Burst
-burst_of w (lines.Burst name workers frames destination body) = record {
-  station = place w name;
-  workers = workers;
-  frames = frames;
-  user = record { destination = destination; body = body };
-} ∷ []
-burst_of w _ = []
-
--- a line with the number that it has
-abbrev pub kept_line : World → Line → Numbered
-kept_line w line = record { number = w.kept.line; line = line }
-
 -- where the lines stand behind a line behind `race`, which is kept, or behind which those of control
 -- come
 abbrev pub behind_race : Line → World → List Burst → Phase
@@ -161,29 +150,35 @@ behind_race line w bursts = Bursting (bursts ++ burst_of w line)
 
 -- where they stand behind a line of control, which is kept
 abbrev pub behind_while : Line → World → List Burst → List Numbered → Phase
-behind_while line w bursts control = Controlling bursts (control ++ kept_line w line ∷ [])
+behind_while line w bursts control = Controlling bursts (control ++ kept_line w (deed_of line w))
 
 -- ---- lines
 
+-- what a deed performs
+abbrev pub act : Deed → Act
+act (deeds.Start name sci priority) = seq begin (happen (Start name sci priority))
+act (deeds.Tick rounds) = times rounds round
+act (deeds.TickOne s ticks) = times ticks (tick s)
+act (deeds.Flow rounds) = times rounds flow_round
+act (deeds.Deliver frame s) = happen (Deliver frame s)
+act (deeds.Feed first last s) = feed first last s
+act (deeds.Spread frame) = spread frame
+act (deeds.Lose frame) = change (mark frame)
+act (deeds.Cut from to) = change (cut_in from to)
+act (deeds.Mend from to) = change (mended_in from to)
+act (deeds.Restart s) = happen (Restart s)
+act (deeds.Send s user) = send_new user s
+act (deeds.Inject s octets) = happen (Inject s octets)
+
+-- what performs its deed, or another act where it has none
+abbrev pub act_or : Option Deed → Act → Act
+act_or None other = other
+act_or (Some d) other = act d
+
 -- what a line performs outside a race that isn't refused
 abbrev pub deed : Line → World → Act
-deed (lines.Station name sci priority) w =
-    seq begin (happen (Start name sci priority))
-deed (lines.Tick rounds) w = times rounds round
-deed (lines.TickOne name ticks) w = times ticks (tick (place w name))
-deed (lines.Flow rounds) w = times rounds flow_round
-deed (lines.Deliver frame name) w = happen (Deliver frame (place w name))
-deed (lines.Feed first last name) w = feed first last (place w name)
-deed (lines.Spread frame) w = spread frame
-deed (lines.Lose frame) w = change (mark frame)
-deed (lines.Cut from to) w = change (cut_in (place w from) (place w to))
-deed (lines.Mend from to) w = change (mended_in (place w from) (place w to))
-deed (lines.Restart name) w = happen (Restart (place w name))
-deed (lines.Send name destination body) w =
-    send_new (record { destination = destination; body = body }) (place w name)
-deed (lines.Inject name octets) w = happen (Inject (place w name) octets)
 deed lines.Race w = enter (Bursting [])
-deed line w = choose (chosen_by line)
+deed line w = act_or (deed_of line w) (choose (chosen_by line))
 
 -- the line of this number begins
 abbrev pub begin_line : ℕ → Act
@@ -192,7 +187,7 @@ begin_line number = change (λ kept. record kept { line = number })
 -- a line of control is performed beside the workers; that its frame isn't there shows only now
 abbrev pub controlled : Numbered → Act
 controlled kept = seq (begin_line kept.number) (look (λ w.
-    unless_refused (wrong_frame kept.line (length w.kept.frames)) (deed kept.line w)))
+    unless_refused (wrong_frame kept.deed (length w.kept.frames)) (act kept.deed)))
 
 -- the lines of control, one after the other
 abbrev pub control_act : List Numbered → Act

@@ -7,8 +7,8 @@ use Rattle.lan_base.specs.declared.frame.UserFrame.{UserFrame}
 use Rattle.gcm_frames.specs.Protected.{protection_octets}
 use Rattle.lan_core.specs.declared.stop.Which.{Which}
 use Rattle.lan_core.specs.declared.stop.Which.TheVariants.{Frames, Octets}
-use Rattle.trace_text.specs.declared.line.Line.{Line}
 pub use Rattle.trace_acts.specs.Settings.{most_users}
+use Rattle.lan_schedule.specs.declared.deed.Deed.{Deed}
 
 -- a burst: a station, how many workers it has there, how many frames they send in all, and of which
 -- user data
@@ -18,10 +18,10 @@ pub record Burst : Type 0 where
   pub frames : ℕ
   pub user : UserFrame
 
--- a line that is kept, with its number
+-- a deed that is kept, with the number of its line
 pub record Numbered : Type 0 where
   pub number : ℕ
-  pub line : Line
+  pub deed : Deed
 
 -- where the lines stand: in no race; behind `race`, where bursts come; behind `while`, where the
 -- lines of control come; or in a race whose lines of control are performed

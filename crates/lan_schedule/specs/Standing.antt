@@ -4,7 +4,6 @@ use Rattle.std.specs.Prelude.{Result, Ok, Err}
 use Rattle.std.specs.List.{AllByRecursion}
 use Rattle.lan_core.specs.Run.{facts_of}
 use Rattle.lan_core.specs.Types.{IsUserFrame}
-use Rattle.trace_text.specs.Writing.{IsInForm}
 use Rattle.fact_tally.specs.Summary.{counts}
 use Rattle.trace_acts.specs.declared.halt.Halt.{Halt}
 pub use Rattle.trace_acts.specs.Settings.{IsNamed}
@@ -19,7 +18,8 @@ use Rattle.lan_schedule.specs.Races.{workers_at}
 use Rattle.lan_schedule.specs.World.{World, nothing_kept}
 use Rattle.lan_schedule.specs.Acts.{Act, Goes, Stops, perform}
 use Rattle.trace_text.specs.Limits.{most_workers}
-use Rattle.lan_schedule.specs.Kinds.{is_control, wrong_name}
+use Rattle.lan_schedule.specs.Deeds.{IsInRange, is_control}
+use Rattle.lan_schedule.specs.Kinds.{wrong_station}
 use Rattle.lan_schedule.specs.Lines.{at_line, close, line_after}
 use Rattle.lan_schedule.specs.Reports.{Report}
 use Rattle.lan_schedule.specs.Ends.{Moment, IsReached, Ends, Standing}
@@ -36,11 +36,11 @@ pub record IsBurst (names : List (List ℕ)) (burst : Burst) : Type 0 where
   pub station : burst.station < length names
   pub user : IsUserFrame burst.user
 
--- a line of control in its form, which names stations that there are
+-- a deed of control whose words are in their ranges, at stations that there are
 pub record IsControl (names : List (List ℕ)) (kept : Numbered) : Type 0 where
-  pub form : IsInForm kept.line
-  pub control : is_control kept.line ≡ true
-  pub named : wrong_name kept.line names ≡ None
+  pub ranges : IsInRange kept.deed
+  pub control : is_control kept.deed ≡ true
+  pub stations : wrong_station kept.deed names ≡ None
 
 -- such bursts, and no station has more workers than there are seats at its words
 pub record AreBursts (names : List (List ℕ)) (bursts : List Burst) : Type 0 where

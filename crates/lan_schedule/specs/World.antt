@@ -72,9 +72,13 @@ is_racing _ = false
 abbrev pub count : World → ℕ
 count w = length (stations w.run)
 
+-- the place of a name among these; where there is none, the count of them
+abbrev pub place_in : List ℕ → List (List ℕ) → ℕ
+place_in name names = position_or_len (pointwise nat_eq name) names
+
 -- the place of the station of this name; where there is none, the count of stations
 abbrev pub place : World → List ℕ → ℕ
-place w name = position_or_len (pointwise nat_eq name) (names_of w.run)
+place w name = place_in name (names_of w.run)
 
 -- what holds for the whole group
 abbrev pub settings : World → Settings

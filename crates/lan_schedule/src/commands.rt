@@ -11,7 +11,6 @@ ghost use Rattle.trace_text.specs.Reading.{line_in};
 ghost use Rattle.trace_text.specs.Writing.{IsInForm};
 ghost use Rattle.trace_acts.specs.declared.halt.Halt.{Halt};
 ghost use Rattle.trace_acts.specs.Kinds.{is_allowed};
-ghost use Rattle.trace_acts.specs.Places.{IsStation};
 ghost use Rattle.lan_schedule.specs.Races.{Chance};
 ghost use Rattle.lan_schedule.specs.World.{World, beginning};
 ghost use Rattle.lan_schedule.specs.Acts.{look};
@@ -27,6 +26,7 @@ use crate::race::run_race;
 use crate::recorder::{Preparing, Recorder};
 use crate::stage::Stage;
 use fact_tally::Tally;
+use lan_base::{Name, Sci};
 use packet_claims::Gate;
 use std::alloc::Global;
 use std::mem::replace;
@@ -88,17 +88,17 @@ impl Replay {
         &mut self,
         rt: &T,
         number: u32,
-        line: &Line,
+        line: Line,
         recorder: &mut R,
         outlet: &mut K,
         gate: &G,
     ) -> Result<(), Halt>
-        requires { IsInForm line.now }
-        ensures does { Does R.Took R.Broke (numbered number line.now)
+        requires { IsInForm line }
+        ensures does { Does R.Took R.Broke (numbered number line)
             (moment self.old outlet.old) (moment self.new outlet.new) result }
         // The end of a race: what control and the workers did is woven into the run.
-        ensures race { line.now ≡ lines.End
-            → RunsRace R.Took R.Broke (at_line number) (numbered number line.now)
+        ensures race { line ≡ lines.End
+            → RunsRace R.Took R.Broke (at_line number) (numbered number line)
             (moment self.old outlet.old) (moment self.new outlet.new) result }
         ensures seats { NoMoreOut (words_of self.old) (words_of self.new) }
         ensures halts { IfErr result (λ halt. self.new.halted ≡ Some halt) }
@@ -218,7 +218,7 @@ impl Replay {
                 self.begin_line(number);
                 Ok(())
             }
-            Ok(Some(line)) => self.perform_line(rt, number, &line, recorder, outlet, gate),
+            Ok(Some(line)) => self.perform_line(rt, number, line, recorder, outlet, gate),
             Err(LineError::Refused(fault)) => Err(Halt::Trace {
                 line: number,
                 kind: kind_of_fault(fault),
@@ -232,16 +232,16 @@ impl Replay {
         &mut self,
         rt: &T,
         number: u32,
-        line: &Line,
+        line: Line,
         recorder: &mut R,
         outlet: &mut K,
         gate: &G,
     ) -> Result<(), Halt>
-        requires { IsInForm line.now }
-        ensures does { Does R.Took R.Broke (numbered number line.now)
+        requires { IsInForm line }
+        ensures does { Does R.Took R.Broke (numbered number line)
             (moment self.old outlet.old) (moment self.new outlet.new) result }
-        ensures race { line.now ≡ lines.End
-            → RunsRace R.Took R.Broke (at_line number) (numbered number line.now)
+        ensures race { line ≡ lines.End
+            → RunsRace R.Took R.Broke (at_line number) (numbered number line)
             (moment self.old outlet.old) (moment self.new outlet.new) result }
         ensures seats { NoMoreOut (words_of self.old) (words_of self.new) }
     {
@@ -275,34 +275,34 @@ impl Replay {
     fn perform<T: Threads + Sync, K, R: Preparing<K>, G: Gate + Sync>(
         &mut self,
         rt: &T,
-        line: &Line,
+        line: Line,
         recorder: &mut R,
         outlet: &mut K,
         gate: &G,
     ) -> Result<(), Halt>
-        requires { IsInForm line.now }
-        ensures does { Does R.Took R.Broke (act_of line.now)
+        requires { IsInForm line }
+        ensures does { Does R.Took R.Broke (act_of line)
             (moment self.old outlet.old) (moment self.new outlet.new) result }
-        ensures race { line.now ≡ lines.End → RunsRace R.Took R.Broke (λ w. w) (act_of line.now)
+        ensures race { line ≡ lines.End → RunsRace R.Took R.Broke (λ w. w) (act_of line)
             (moment self.old outlet.old) (moment self.new outlet.new) result }
         ensures seats { NoMoreOut (words_of self.old) (words_of self.new) }
     {
-        if self.phase.is_end(line) {
+        if self.phase.is_end(&line) {
             return self.run_kept(rt, recorder, outlet, gate);
         }
         if let Some(stage) = &mut self.stage {
-            if self.phase.takes(line) {
+            if self.phase.takes(&line) {
                 return self.phase.take(stage, line);
             }
             return stage.command(rt, line, recorder, outlet, gate);
         }
-        if let Some(kind) = refusal(&self.chosen, line) {
+        if let Some(kind) = refusal(&self.chosen, &line) {
             return Err(Halt::Trace {
                 line: self.line,
                 kind,
             });
         }
-        self.prepare(line, recorder, outlet, gate)
+        self.prepare(&line, recorder, outlet, gate)
     }
 
     /// The race that is kept is run.
@@ -346,7 +346,11 @@ impl Replay {
         ensures seats { NoMoreOut (words_of self.old) (words_of self.new) }
     {
         match line {
-            Line::Station { .. } => self.open(line, recorder, outlet, gate),
+            Line::Station {
+                name,
+                sci,
+                priority,
+            } => self.open(*name, *sci, *priority, recorder, outlet, gate),
             _ => {
                 choose(self.alloc, &mut self.chosen, line)?;
                 Ok(())
@@ -357,21 +361,22 @@ impl Replay {
     /// The first station starts.
     fn open<K, R: Recorder<K>, G: Gate>(
         &mut self,
-        line: &Line,
+        name: Name,
+        sci: Sci,
+        priority: u32,
         recorder: &mut R,
         outlet: &mut K,
         gate: &G,
     ) -> Result<(), Halt>
-        requires form { IsInForm line.now }
+        requires form { IsInForm (lines.Station name sci priority) }
         requires unbegun { self.old.stage ≡ None }
         requires keyed { is_some self.old.chosen.group ≡ true }
-        requires station { IsStation line.now }
-        ensures does { Does R.Took R.Broke (look (λ w. deed line.now w))
+        ensures does { Does R.Took R.Broke (look (λ w. deed (lines.Station name sci priority) w))
             (moment self.old outlet.old) (moment self.new outlet.new) result }
         ensures seats { NoMoreOut (words_of self.old) (words_of self.new) }
     {
         let mut stage = Stage::new(self.alloc, &self.chosen, self.line)?;
-        let outcome = stage.perform(line, recorder, outlet, gate);
+        let outcome = stage.start(name, sci, priority, recorder, outlet, gate);
         put(&mut self.stage, stage);
         outcome
     }

@@ -4,6 +4,7 @@
 
 mod batches;
 mod commands;
+mod deed;
 mod frames;
 mod keeping;
 mod laws;

@@ -1,27 +1,27 @@
 //! Where in a race the lines stand, and which lines are kept for it.
 
-ghost use Rattle.std.specs.Prelude.{◌≡◌, ◌+◌, nat_lt, true, false, not, IfOk, IfSome, Some};
+ghost use Rattle.std.specs.Prelude.{◌≡◌, ◌⊎◌, ◌+◌, ◌∷◌, ◌++◌, [], nat_lt, true, false, not};
+ghost use Rattle.std.specs.Prelude.{IfOk, IfErr, None};
 ghost use Rattle.lan_core.specs.Types.{IsUserFrame};
 ghost use Rattle.trace_text.specs.Limits.{most_workers};
 ghost use Rattle.trace_text.specs.Writing.{IsInForm};
-ghost use Rattle.trace_acts.specs.declared.halt.Kind.TheVariants as kinds;
-ghost use Rattle.trace_acts.specs.Kinds.{or_else, where_};
+ghost use Rattle.trace_acts.specs.declared.halt.Halt.{Halt};
+ghost use Rattle.trace_acts.specs.Kinds.{first_of};
 ghost use Rattle.lan_schedule.specs.World.{World};
-ghost use Rattle.lan_schedule.specs.Races.{workers_at};
-ghost use Rattle.lan_schedule.specs.Kinds.{is_burst_allowed, is_control, is_control_allowed};
-ghost use Rattle.lan_schedule.specs.Kinds.{refusal, too_many};
-ghost use Rattle.lan_schedule.specs.Lines.{behind_race, behind_while};
+ghost use Rattle.lan_schedule.specs.Races.{Bursting, Controlling, workers_at};
+ghost use Rattle.lan_schedule.specs.Deeds.{IsInRange, is_control};
+ghost use Rattle.lan_schedule.specs.Kinds.{too_many};
 ghost use Rattle.lan_schedule.specs.Ends.{IsReached};
 ghost use Rattle.lan_schedule.specs.Stages.{StandsFor};
 ghost use Rattle.lan_schedule.specs.Standing.{phase_of};
 ghost use Rattle.lan_schedule.specs.Woven.{is_controlling};
-ghost use Rattle.lan_schedule.specs.inside.Phased.{is_inside, is_taken, is_end, behind};
-ghost use Rattle.lan_schedule.specs.inside.Phased.{MayBeKept, Takes};
+ghost use Rattle.lan_schedule.specs.inside.Phased.{is_inside, is_taken, is_end, Enters, Takes};
+ghost use Rattle.lan_schedule.specs.inside.Phased.{Refused, refused_burst, refused_control};
 ghost use Rattle.lan_schedule.specs.inside.Choosing.{MayControl};
 
+use crate::deed::Deed;
 use crate::stage::Stage;
 use lan_base::UserFrame;
-use std::alloc::{AllocError, Global};
 use std::marker::Model;
 use std::mem::replace;
 use trace_acts::{Halt, Kind};
@@ -84,11 +84,11 @@ impl Burst {
     }
 }
 
-/// A line of control that is kept, with its number. Contracts see both.
+/// A deed of control that is kept, with the number of its line. Contracts see both.
 #[derive(Drop)]
 pub struct Numbered {
     number: u32,
-    line: Line,
+    deed: Deed,
 }
 
 impl Model for Numbered {
@@ -98,9 +98,9 @@ impl Model for Numbered {
 
     ghost use Rattle.lan_schedule.specs.inside.Choosing.{MayControl};
 
-    ghost view = { λ k. record { number = k.number; line = k.line } };
+    ghost view = { λ k. record { number = k.number; deed = k.deed } };
 
-    ghost invariant = { λ k. MayControl k.line };
+    ghost invariant = { λ k. MayControl k.deed };
 }
 
 impl Numbered {
@@ -111,12 +111,12 @@ impl Numbered {
         self.number
     }
 
-    /// The line.
-    pub fn line(&self) -> &Line
-        ensures value { result.now ≡ self.now.line }
-        ensures fits { MayControl result.now }
+    /// Its deed.
+    pub fn deed(self) -> Deed
+        ensures value { result ≡ self.deed }
+        ensures fits { MayControl result }
     {
-        &self.line
+        self.deed
     }
 }
 
@@ -161,47 +161,24 @@ impl Phase {
     }
 
     /// Takes a line that belongs to a race and doesn't end it: it is refused, or kept for the race.
-    pub fn take(&mut self, stage: &Stage, line: &Line) -> Result<(), Halt>
-        requires { IsInForm line.now }
+    pub fn take(&mut self, stage: &Stage, line: Line) -> Result<(), Halt>
+        requires { IsInForm line }
         ensures { (w : World) → IsReached StandsFor w stage.now
-            → w.kept.phase ≡ phase_of self.old → is_taken (phase_of self.old) line.now ≡ true
-            → is_end (phase_of self.old) line.now ≡ false → Takes line.now w self.new result }
+            → w.kept.phase ≡ phase_of self.old → is_taken (phase_of self.old) line ≡ true
+            → is_end (phase_of self.old) line ≡ false → Takes line w self.new result }
     {
-        if let Some(kind) = self.refusal(stage, line) {
-            return Err(Halt::Trace {
-                line: stage.line,
-                kind,
-            });
-        }
         let before = replace(self, Phase::Apart);
         *self = before.behind(stage, line)?;
         Ok(())
     }
 
-    /// Why a line that belongs to a race is refused.
-    fn refusal(&self, stage: &Stage, line: &Line) -> Option<Kind>
+    /// Where the lines stand behind a line that belongs to a race and doesn't end it, or why it is
+    /// refused.
+    fn behind(self, stage: &Stage, line: Line) -> Result<Self, Halt>
+        requires { IsInForm line }
         ensures { (w : World) → IsReached StandsFor w stage.now
-            → w.kept.phase ≡ phase_of self.now → is_taken (phase_of self.now) line.now ≡ true
-            → result ≡ refusal line.now w }
-    {
-        match self {
-            Phase::Apart => None,
-            Phase::Bursting(bursts) => unless_allowed(
-                is_burst_allowed(line, bursts),
-                too_many(bursts, stage, line).or(stage.wrong_name(line)),
-            ),
-            Phase::Controlling(_, control) => unless_allowed(
-                is_control_allowed(line, control),
-                stage.wrong_name(line),
-            ),
-        }
-    }
-
-    /// Where the lines stand behind a line that belongs to a race, and neither is refused nor ends it.
-    fn behind(self, stage: &Stage, line: &Line) -> Result<Self, AllocError>
-        requires { IsInForm line.now }
-        ensures { (w : World) → IsReached StandsFor w stage.now → MayBeKept (phase_of self) line.now
-            → IfOk result (λ phase. phase_of phase ≡ behind line.now w (phase_of self)) }
+            → is_end (phase_of self) line ≡ false → is_taken (phase_of self) line ≡ true
+            → Enters line w (phase_of self) result }
     {
         match self {
             Phase::Apart => Ok(Phase::Bursting(Vec::new(stage.alloc))),
@@ -211,59 +188,68 @@ impl Phase {
     }
 }
 
-/// What is wrong with a line, unless it isn't allowed here.
-fn unless_allowed(allowed: bool, wrong: Option<Kind>) -> Option<Kind>
-    ensures { result ≡ or_else (where_ (not allowed) kinds.Order) wrong }
-{
-    if allowed { wrong } else { Some(Kind::Order) }
-}
-
-/// Whether a line may stand behind `race`.
-fn is_burst_allowed(line: &Line, bursts: &[Burst]) -> bool
-    ensures { result ≡ is_burst_allowed line.now bursts.now }
+/// Where the lines stand behind a line behind `race`, or why it is refused.
+fn behind_race(bursts: Vec<Burst>, stage: &Stage, line: Line) -> Result<Phase, Halt>
+    requires { IsInForm line }
+    ensures { (w : World) → IsReached StandsFor w stage.now
+        → Enters line w (Bursting bursts.items) result }
 {
     match line {
-        Line::Burst { .. } => bursts.len() < MAX_BURSTS,
-        Line::While => !bursts.is_empty(),
-        _ => false,
+        Line::While => {
+            if bursts.is_empty() {
+                return Err(stage.refused(Kind::Order));
+            }
+            Ok(Phase::Controlling(bursts, Vec::new(stage.alloc)))
+        }
+        Line::Burst {
+            name,
+            workers,
+            frames,
+            destination,
+            body,
+        } => {
+            let burst = Burst {
+                station: stage.place(&name),
+                workers,
+                frames,
+                user: UserFrame { destination, body },
+            };
+            with_burst(bursts, stage, burst)
+        }
+        _ => Err(stage.refused(Kind::Order)),
     }
 }
 
-/// Whether a line may stand behind `while`.
-fn is_control_allowed(line: &Line, control: &[Numbered]) -> bool
-    ensures { result ≡ is_control_allowed line.now control.now }
+/// One burst more, or why it is refused.
+fn with_burst(mut bursts: Vec<Burst>, stage: &Stage, burst: Burst) -> Result<Phase, Halt>
+    ensures kept { IfOk result (λ phase. (phase_of phase ≡ Bursting (bursts.items ++ burst ∷ []))
+        × (refused_burst burst bursts.items stage.now.lan.names ≡ None)) }
+    ensures refused { IfErr result (λ halt. Refused
+        (refused_burst burst bursts.items stage.now.lan.names) stage.now.line halt
+        ⊎ (halt ≡ Halt.Memory)) }
 {
-    matches!(line, Line::End) || is_control(line) && control.len() < MAX_CONTROL
+    if let Some(kind) = refused_burst(&burst, &bursts, stage) {
+        return Err(stage.refused(kind));
+    }
+    bursts.push(burst)?;
+    Ok(Phase::Bursting(bursts))
 }
 
-/// Whether lines of this form are control's.
-fn is_control(line: &Line) -> bool
-    ensures { result ≡ is_control line.now }
+/// Why a burst is refused behind others.
+fn refused_burst(burst: &Burst, bursts: &[Burst], stage: &Stage) -> Option<Kind>
+    ensures { result ≡ refused_burst burst.now bursts.now stage.now.lan.names }
 {
-    matches!(
-        line,
-        Line::Tick { .. }
-            | Line::TickOne { .. }
-            | Line::Flow { .. }
-            | Line::Deliver { .. }
-            | Line::Spread { .. }
-            | Line::Lose { .. }
-            | Line::Cut { .. }
-            | Line::Mend { .. }
-            | Line::Restart { .. }
-            | Line::Inject { .. }
+    unless_allowed(
+        bursts.len() < MAX_BURSTS,
+        too_many(burst, bursts).or(stage.no_station(burst.station)),
     )
 }
 
 /// Whether a burst has more workers than its station may still have.
-fn too_many(bursts: &[Burst], stage: &Stage, line: &Line) -> Option<Kind>
-    ensures { (w : World) → IsReached StandsFor w stage.now
-        → result ≡ too_many line.now w bursts.now }
+fn too_many(burst: &Burst, bursts: &[Burst]) -> Option<Kind>
+    ensures { result ≡ too_many burst.now bursts.now }
 {
-    let Line::Burst { name, workers, .. } = line else {
-        return None;
-    };
-    if are_few(bursts, stage.place(name), *workers) {
+    if are_few(bursts, burst.station, burst.workers) {
         None
     } else {
         Some(Kind::Range)
@@ -286,90 +272,68 @@ fn are_few(bursts: &[Burst], station: u8, workers: u32) -> bool
     workers <= left
 }
 
-/// Where the lines stand behind a line behind `race`.
-fn behind_race(mut bursts: Vec<Burst>, stage: &Stage, line: &Line) -> Result<Phase, AllocError>
-    requires { IsInForm line.now }
-    ensures { (w : World) → IsReached StandsFor w stage.now
-        → IfOk result (λ phase. phase_of phase ≡ behind_race line.now w bursts.items) }
-{
-    match line {
-        Line::While => Ok(Phase::Controlling(bursts, Vec::new(stage.alloc))),
-        Line::Burst {
-            name,
-            workers,
-            frames,
-            destination,
-            body,
-        } => {
-            let user = UserFrame {
-                destination: *destination,
-                body: body.copied(stage.alloc)?,
-            };
-            bursts.push(Burst {
-                station: stage.place(name),
-                workers: *workers,
-                frames: *frames,
-                user,
-            })?;
-            Ok(Phase::Bursting(bursts))
-        }
-        _ => Ok(Phase::Bursting(bursts)),
-    }
-}
-
-/// Where they stand behind a line of control, which is kept.
+/// Where the lines stand behind a line of control, which is kept, or why it is refused.
 fn behind_while(
     bursts: Vec<Burst>,
-    mut control: Vec<Numbered>,
+    control: Vec<Numbered>,
     stage: &Stage,
-    line: &Line,
-) -> Result<Phase, AllocError>
-    requires { IsInForm line.now }
-    ensures { (w : World) → IsReached StandsFor w stage.now → is_control line.now ≡ true
-        → IfOk result (λ phase. phase_of phase
-        ≡ behind_while line.now w bursts.items control.items) }
+    line: Line,
+) -> Result<Phase, Halt>
+    requires { IsInForm line }
+    ensures { (w : World) → IsReached StandsFor w stage.now
+        → is_end (Controlling bursts.items control.items) line ≡ false
+        → Enters line w (Controlling bursts.items control.items) result }
 {
-    if let Some(line) = copied(stage.alloc, line)? {
-        control.push(Numbered {
-            number: stage.line,
-            line,
-        })?;
-    }
+    let Some(deed) = stage.deed(line) else {
+        return Err(stage.refused(Kind::Order));
+    };
+    let control = with_deed(control, stage, deed)?;
     Ok(Phase::Controlling(bursts, control))
 }
 
-/// A copy of a line of control; no other line is copied.
-fn copied(alloc: Global, line: &Line) -> Result<Option<Line>, AllocError>
-    requires { IsInForm line.now }
-    ensures copy { is_control line.now ≡ true → IfOk result (λ copy. copy ≡ Some line.now) }
-    ensures fits { IfOk result (λ copy. IfSome copy MayControl) }
+/// One deed of control more, or why it is refused.
+fn with_deed(mut control: Vec<Numbered>, stage: &Stage, deed: Deed) -> Result<Vec<Numbered>, Halt>
+    requires { IsInRange deed }
+    ensures kept { IfOk result (λ all. (all.items
+        ≡ control.items ++ record { number = stage.now.line; deed = deed } ∷ [])
+        × (refused_control deed control.items stage.now.lan.names ≡ None)) }
+    ensures refused { IfErr result (λ halt. Refused
+        (refused_control deed control.items stage.now.lan.names) stage.now.line halt
+        ⊎ (halt ≡ Halt.Memory)) }
 {
-    Ok(Some(match line {
-        Line::Tick { rounds } => Line::Tick { rounds: *rounds },
-        Line::TickOne { name, ticks } => Line::TickOne {
-            name: *name,
-            ticks: *ticks,
-        },
-        Line::Flow { rounds } => Line::Flow { rounds: *rounds },
-        Line::Deliver { frame, name } => Line::Deliver {
-            frame: *frame,
-            name: *name,
-        },
-        Line::Spread { frame } => Line::Spread { frame: *frame },
-        Line::Lose { frame } => Line::Lose { frame: *frame },
-        Line::Cut { from, to } => Line::Cut {
-            from: *from,
-            to: *to,
-        },
-        Line::Mend { from, to } => Line::Mend {
-            from: *from,
-            to: *to,
-        },
-        Line::Restart { name } => Line::Restart { name: *name },
-        Line::Inject { name, octets } => Line::Inject {
-            name: *name,
-            octets: octets.copied(alloc)?,
-        },
-        _ => return Ok(None),
-    }))
+    if let Some(kind) = refused_control(&deed, &control, stage) {
+        return Err(stage.refused(kind));
+    }
+    control.push(Numbered {
+        number: stage.line,
+        deed,
+    })?;
+    Ok(control)
+}
+
+/// Why a deed is refused behind others of control.
+fn refused_control(deed: &Deed, control: &[Numbered], stage: &Stage) -> Option<Kind>
+    ensures { result ≡ refused_control deed.now control.now stage.now.lan.names }
+{
+    unless_allowed(
+        is_control(deed) && control.len() < MAX_CONTROL,
+        stage.wrong_station(deed),
+    )
+}
+
+/// Whether a deed may be control's.
+fn is_control(deed: &Deed) -> bool
+    ensures { result ≡ is_control deed.now }
+{
+    !matches!(
+        deed,
+        Deed::Start { .. } | Deed::Feed { .. } | Deed::Send { .. }
+    )
+}
+
+/// What is wrong with a line, unless it isn't allowed here.
+fn unless_allowed(allowed: bool, wrong: Option<Kind>) -> Option<Kind>
+    ensures { result ≡ first_of allowed wrong }
+{
+    if allowed { wrong } else { Some(Kind::Order) }
 }

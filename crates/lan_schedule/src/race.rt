@@ -132,7 +132,7 @@ fn run_beside<T: Threads + Sync, G: Gate + Sync>(
     let kept = Kept::new(stage.alloc);
     let mut runner = Runner {
         stage,
-        lines: control,
+        control,
         kept,
         came: Ok(()),
         gate,
@@ -146,7 +146,7 @@ fn run_beside<T: Threads + Sync, G: Gate + Sync>(
     );
     let Runner {
         mut stage,
-        lines: _,
+        control: _,
         kept,
         came,
         gate: _,
@@ -361,42 +361,40 @@ impl Stage {
 
     // ---- control
 
-    /// Performs the lines of control, one after the other.
+    /// Performs the deeds of control, one after the other.
     pub fn control<K, R: Recorder<K>, G: Gate>(
         &mut self,
-        lines: &[Numbered],
+        control: Vec<Numbered>,
         recorder: &mut R,
         outlet: &mut K,
         gate: &G,
     ) -> Result<(), Halt>
-        ensures { Did R.Took R.Broke (control_act lines.now)
+        ensures { Did R.Took R.Broke (control_act control.items)
             (moment self.old outlet.old) (moment self.new outlet.new) result }
     {
-        for kept in lines {
+        for kept in control {
             self.controlled(kept, recorder, outlet, gate)?;
         }
         Ok(())
     }
 
-    /// Performs a line of control, unless the air has no such frame.
+    /// Performs a deed of control, unless the air has no such frame.
     fn controlled<K, R: Recorder<K>, G: Gate>(
         &mut self,
-        kept: &Numbered,
+        kept: Numbered,
         recorder: &mut R,
         outlet: &mut K,
         gate: &G,
     ) -> Result<(), Halt>
-        ensures { Did R.Took R.Broke (controlled kept.now)
+        ensures { Did R.Took R.Broke (controlled kept)
             (moment self.old outlet.old) (moment self.new outlet.new) result }
     {
         self.line = kept.number();
-        if let Some(kind) = self.wrong_frame(kept.line()) {
-            return Err(Halt::Trace {
-                line: self.line,
-                kind,
-            });
+        let deed = kept.deed();
+        if let Some(kind) = self.wrong_frame(&deed) {
+            return Err(self.refused(kind));
         }
-        self.perform(kept.line(), recorder, outlet, gate)
+        self.perform(deed, recorder, outlet, gate)
     }
 
     /// The steps that were kept, if any; no more are kept.

@@ -1,90 +1,160 @@
-//! Why a line after the first station is refused.
+//! Which deed a line is outside a race, or why it is refused.
 
-ghost use Rattle.std.specs.Prelude.{◌≡◌, length, map, IfNone, false};
+ghost use Rattle.std.specs.Prelude.{◌≡◌, ◌≤◌, length, map, false, IfOk, IfSome, Some};
 ghost use Rattle.lan_core.specs.Standing.{scis_in};
+ghost use Rattle.trace_text.specs.Writing.{IsInForm};
 ghost use Rattle.trace_acts.specs.Names.{is_in};
-ghost use Rattle.trace_acts.specs.Kinds.{or_else, where_, unknown};
+ghost use Rattle.trace_acts.specs.Kinds.{or_else, where_};
 ghost use Rattle.trace_acts.specs.declared.halt.Kind.TheVariants as kinds;
-ghost use Rattle.trace_acts.specs.Places.{is_elsewhere};
+ghost use Rattle.trace_acts.specs.Places.{is_race};
 ghost use Rattle.lan_schedule.specs.World.{World};
-ghost use Rattle.lan_schedule.specs.Kinds.{no_frame, is_number};
-ghost use Rattle.lan_schedule.specs.Kinds.{wrong_word, wrong_name, wrong_frame};
-ghost use Rattle.lan_schedule.specs.inside.Phased.{refusal_apart};
+ghost use Rattle.lan_schedule.specs.Deeds.{IsInRange, deed_in};
+ghost use Rattle.lan_schedule.specs.Kinds.{no_frame, no_station, is_number, taken};
+ghost use Rattle.lan_schedule.specs.Kinds.{wrong_frame, wrong_station, wrong_word};
+ghost use Rattle.lan_schedule.specs.Ends.{IsReached};
+ghost use Rattle.lan_schedule.specs.inside.Phased.{Resolves};
 ghost use Rattle.lan_schedule.specs.Stages.{StandsFor};
 
+use crate::deed::Deed;
 use crate::stage::Stage;
-use lan_base::{Name, Sci};
-use trace_acts::{Kind, is_elsewhere, is_named, unknown};
+use lan_base::{Name, Sci, UserFrame};
+use trace_acts::{Kind, is_named};
 use trace_text::Line;
 
 impl Stage {
-    /// Why a line is refused outside a race.
-    pub fn refusal(&self, line: &Line) -> Option<Kind>
-        ensures first { (w : World) → StandsFor w self.now → result ≡ refusal_apart line.now w }
-        ensures later { IfNone result (is_elsewhere line.now ≡ false) }
+    /// The deed of a line outside a race, which begins none, or why it is refused.
+    pub fn resolve(&self, line: Line) -> Result<Deed, Kind>
+        requires form { IsInForm line }
+        requires apart { is_race line ≡ false }
+        ensures resolves { (w : World) → IsReached StandsFor w self.now → Resolves line w result }
+        ensures ranges { IfOk result IsInRange }
     {
-        if is_elsewhere(line) {
-            return Some(Kind::Order);
+        let Some(deed) = self.deed(line) else {
+            return Err(Kind::Order);
+        };
+        match self.wrong_word(&deed) {
+            None => Ok(deed),
+            Some(kind) => Err(kind),
         }
-        self.wrong_word(line)
     }
 
-    /// What is wrong with the words of a line, from the left.
-    fn wrong_word(&self, line: &Line) -> Option<Kind>
+    /// The deed of a line, if it has one.
+    pub fn deed(&self, line: Line) -> Option<Deed>
+        requires form { IsInForm line }
+        ensures is { length self.now.lan.names ≤ 255
+            → result ≡ deed_in line self.now.lan.names }
+        ensures ranges { IfSome result IsInRange }
+    {
+        Some(match line {
+            Line::Station {
+                name,
+                sci,
+                priority,
+            } => Deed::Start {
+                name,
+                sci,
+                priority,
+            },
+            Line::Tick { rounds } => Deed::Tick { rounds },
+            Line::TickOne { name, ticks } => Deed::TickOne {
+                station: self.place(&name),
+                ticks,
+            },
+            Line::Flow { rounds } => Deed::Flow { rounds },
+            Line::Deliver { frame, name } => Deed::Deliver {
+                frame,
+                station: self.place(&name),
+            },
+            Line::Feed { first, last, name } => Deed::Feed {
+                first,
+                last,
+                station: self.place(&name),
+            },
+            Line::Spread { frame } => Deed::Spread { frame },
+            Line::Lose { frame } => Deed::Lose { frame },
+            Line::Cut { from, to } => Deed::Cut {
+                from: self.place(&from),
+                to: self.place(&to),
+            },
+            Line::Mend { from, to } => Deed::Mend {
+                from: self.place(&from),
+                to: self.place(&to),
+            },
+            Line::Restart { name } => Deed::Restart {
+                station: self.place(&name),
+            },
+            Line::Send {
+                name,
+                destination,
+                body,
+            } => Deed::Send {
+                station: self.place(&name),
+                user: UserFrame { destination, body },
+            },
+            Line::Inject { name, octets } => Deed::Inject {
+                station: self.place(&name),
+                octets,
+            },
+            _ => return None,
+        })
+    }
+
+    // ---- what is wrong with a deed
+
+    /// What is wrong with a deed outside a race, by the words of its line from the left.
+    fn wrong_word(&self, deed: &Deed) -> Option<Kind>
         ensures { result
-            ≡ wrong_word line.now self.now.lan.names (map (λ sci. sci.0) (scis_in self.now.lan))
+            ≡ wrong_word (Some deed.now) self.now.lan.names (map (λ sci. sci.0) (scis_in self.now.lan))
             (length self.now.frames.frames) }
     {
-        match line {
-            Line::Station { name, sci, .. } => self.taken(name, sci),
-            Line::TickOne { name, .. }
-            | Line::Restart { name }
-            | Line::Send { name, .. }
-            | Line::Inject { name, .. } => self.unknown(name),
-            Line::Deliver { frame, name } => self.no_frame(*frame).or(self.unknown(name)),
-            Line::Feed { first, last, name } => self
-                .no_frame(*first)
-                .or(self.no_frame(*last))
-                .or(self.unknown(name)),
-            Line::Spread { frame } | Line::Lose { frame } => self.no_frame(*frame),
-            Line::Cut { from, to } | Line::Mend { from, to } => {
-                self.unknown(from).or(self.unknown(to))
-            }
-            _ => None,
-        }
+        self.wrong_frame(deed)
+            .or(self.taken(deed).or(self.wrong_station(deed)))
     }
 
-    /// What is wrong with the frame of a line of control.
-    pub fn wrong_frame(&self, line: &Line) -> Option<Kind>
-        ensures { result ≡ wrong_frame line.now (length self.now.frames.frames) }
+    /// What is wrong with its frames.
+    pub fn wrong_frame(&self, deed: &Deed) -> Option<Kind>
+        ensures { result ≡ wrong_frame deed.now (length self.now.frames.frames) }
     {
-        match line {
-            Line::Deliver { frame, .. } | Line::Spread { frame } | Line::Lose { frame } => {
+        match deed {
+            Deed::Deliver { frame, .. } | Deed::Spread { frame } | Deed::Lose { frame } => {
                 self.no_frame(*frame)
             }
+            Deed::Feed { first, last, .. } => self.no_frame(*first).or(self.no_frame(*last)),
             _ => None,
         }
     }
 
-    /// What is wrong with the names of a line of a race.
-    pub fn wrong_name(&self, line: &Line) -> Option<Kind>
-        ensures { result ≡ wrong_name line.now self.now.lan.names }
+    /// Whether a station that is to start has a name or an SCI that another has.
+    fn taken(&self, deed: &Deed) -> Option<Kind>
+        ensures { result
+            ≡ taken deed.now self.now.lan.names (map (λ sci. sci.0) (scis_in self.now.lan)) }
     {
-        match line {
-            Line::Burst { name, .. }
-            | Line::TickOne { name, .. }
-            | Line::Deliver { name, .. }
-            | Line::Restart { name }
-            | Line::Inject { name, .. } => self.unknown(name),
-            Line::Cut { from, to } | Line::Mend { from, to } => {
-                self.unknown(from).or(self.unknown(to))
+        match deed {
+            Deed::Start { name, sci, .. } => self.is_taken(name, sci),
+            _ => None,
+        }
+    }
+
+    /// What is wrong with its stations.
+    pub fn wrong_station(&self, deed: &Deed) -> Option<Kind>
+        ensures { result ≡ wrong_station deed.now self.now.lan.names }
+    {
+        match deed {
+            Deed::TickOne { station, .. }
+            | Deed::Deliver { station, .. }
+            | Deed::Feed { station, .. }
+            | Deed::Restart { station }
+            | Deed::Send { station, .. }
+            | Deed::Inject { station, .. } => self.no_station(*station),
+            Deed::Cut { from, to } | Deed::Mend { from, to } => {
+                self.no_station(*from).or(self.no_station(*to))
             }
             _ => None,
         }
     }
 
     /// Whether the name or the SCI of a station that is to start is taken.
-    fn taken(&self, name: &Name, sci: &Sci) -> Option<Kind>
+    fn is_taken(&self, name: &Name, sci: &Sci) -> Option<Kind>
         ensures { result ≡ or_else (where_ (is_in name.now self.now.lan.names) kinds.NameTaken)
             (where_ (is_in sci.now.0 (map (λ sci. sci.0) (scis_in self.now.lan))) kinds.SciTaken) }
     {
@@ -97,11 +167,15 @@ impl Stage {
         }
     }
 
-    /// Whether no station has this name.
-    fn unknown(&self, name: &Name) -> Option<Kind>
-        ensures { result ≡ unknown name.now self.now.lan.names }
+    /// Whether no station stands at this place.
+    pub fn no_station(&self, station: u8) -> Option<Kind>
+        ensures { result ≡ no_station station self.now.lan.names }
     {
-        unknown(self.lan.names(), name)
+        if usize::from(station) < self.lan.names().len() {
+            None
+        } else {
+            Some(Kind::NameUnknown)
+        }
     }
 
     /// Whether the air has no frame of this number.

@@ -13,13 +13,14 @@ ghost use Rattle.lan_core.specs.declared.fact.Fact.{Fact};
 ghost use Rattle.fact_tally.specs.Summary.{counts};
 ghost use Rattle.trace_acts.specs.declared.halt.Halt.{Halt};
 ghost use Rattle.mka_kdf.specs.Kdf.{HasWrongLength};
-ghost use Rattle.trace_acts.specs.Places.{is_elsewhere, is_race};
+ghost use Rattle.trace_acts.specs.Places.{is_race};
 ghost use Rattle.trace_acts.specs.Settings.{settings_of as chosen_settings};
 ghost use Rattle.lan_schedule.specs.World.{World, mark};
 ghost use Rattle.lan_schedule.specs.Sound.{IsTidy};
-ghost use Rattle.lan_schedule.specs.Acts.{happen, seq, look, unless};
+ghost use Rattle.lan_schedule.specs.Acts.{happen, seq, unless};
 ghost use Rattle.lan_schedule.specs.inside.Phased.{act_apart};
-ghost use Rattle.lan_schedule.specs.Lines.{send_new, begin, cut_in, mended_in, deed};
+ghost use Rattle.lan_schedule.specs.Deeds.{IsInRange};
+ghost use Rattle.lan_schedule.specs.Lines.{act, begin, cut_in, mended_in, send_new};
 ghost use Rattle.lan_schedule.specs.Ends.{moment};
 ghost use Rattle.lan_schedule.specs.Stages.{StandsFor};
 ghost use Rattle.lan_schedule.specs.inside.Beside.{IsOver};
@@ -34,11 +35,12 @@ ghost use Rattle.lan_core.specs.Batches.{IsChecked};
 ghost use Rattle.lan_schedule.specs.inside.Staged.{Did, DidWhere, Happened, HasStepped, WentOn};
 ghost use Rattle.lan_schedule.specs.inside.Staged.{Changed, IsOpening};
 
+use crate::deed::Deed;
 use crate::frames::Frames;
 use crate::recorder::Recorder;
 use crate::words::Words;
 use fact_tally::Tally;
-use lan_base::{Mac, Name, Octets, Sci, UserFrame};
+use lan_base::{Name, Octets, Sci, UserFrame};
 use lan_core::{Event, Fact, Facts, Lan, Settings, StepError, Which};
 use mka_kdf::GroupFault;
 use packet_claims::Gate;
@@ -280,112 +282,91 @@ impl Stage {
     pub fn command<T: Threads + Sync, K, R: Recorder<K>, G: Gate>(
         &mut self,
         rt: &T,
-        line: &Line,
+        line: Line,
         recorder: &mut R,
         outlet: &mut K,
         gate: &G,
     ) -> Result<(), Halt>
-        requires form { IsInForm line.now }
-        requires apart { is_race line.now ≡ false }
-        ensures { Did R.Took R.Broke (act_apart line.now)
+        requires form { IsInForm line }
+        requires apart { is_race line ≡ false }
+        ensures { Did R.Took R.Broke (act_apart line)
             (moment self.old outlet.old) (moment self.new outlet.new) result }
     {
-        if let Some(kind) = self.refusal(line) {
-            return Err(Halt::Trace {
-                line: self.line,
-                kind,
-            });
+        match self.resolve(line) {
+            Err(kind) => Err(self.refused(kind)),
+            Ok(
+                Deed::Feed {
+                    first,
+                    last,
+                    station,
+                },
+            ) => self.feed_in_batches(rt, first, last, station, recorder, outlet, gate),
+            Ok(deed) => self.perform(deed, recorder, outlet, gate),
         }
-        if let Line::Feed { first, last, name } = line {
-            return self.feed_in_batches(
-                rt,
-                *first,
-                *last,
-                self.place(name),
-                recorder,
-                outlet,
-                gate,
-            );
-        }
-        self.perform(line, recorder, outlet, gate)
     }
 
-    /// Performs a line that isn't refused.
+    /// How the line that is performed ends a trace, where it is refused.
+    pub fn refused(&self, kind: Kind) -> Halt
+        ensures { result ≡ Halt.Trace self.now.line kind }
+    {
+        Halt::Trace {
+            line: self.line,
+            kind,
+        }
+    }
+
+    /// Performs a deed.
     pub fn perform<K, R: Recorder<K>, G: Gate>(
         &mut self,
-        line: &Line,
+        deed: Deed,
         recorder: &mut R,
         outlet: &mut K,
         gate: &G,
     ) -> Result<(), Halt>
-        requires form { IsInForm line.now }
-        requires later { is_elsewhere line.now ≡ false }
-        requires apart { is_race line.now ≡ false }
-        ensures { Did R.Took R.Broke (look (λ w. deed line.now w))
+        requires { IsInRange deed }
+        ensures { Did R.Took R.Broke (act deed)
             (moment self.old outlet.old) (moment self.new outlet.new) result }
     {
-        match line {
-            Line::Station {
+        match deed {
+            Deed::Start {
                 name,
                 sci,
                 priority,
-            } => self.start(*name, *sci, *priority, recorder, outlet, gate),
-            Line::Tick { rounds } => self.rounds(*rounds, recorder, outlet, gate),
-            Line::TickOne { name, ticks } => self.ticks(
-                self.place(name),
-                *ticks,
-                recorder,
-                outlet,
-                gate,
-            ),
-            Line::Flow { rounds } => self.flow(*rounds, recorder, outlet, gate),
-            Line::Deliver { frame, name } => self.deliver(
-                *frame,
-                self.place(name),
-                recorder,
-                outlet,
-                gate,
-            ),
-            Line::Feed { first, last, name } => self.feed(
-                *first,
-                *last,
-                self.place(name),
-                recorder,
-                outlet,
-                gate,
-            ),
-            Line::Spread { frame } => self.spread(*frame, recorder, outlet, gate),
-            Line::Lose { frame } => {
-                self.lose(*frame);
+            } => self.start(name, sci, priority, recorder, outlet, gate),
+            Deed::Tick { rounds } => self.rounds(rounds, recorder, outlet, gate),
+            Deed::TickOne { station, ticks } => self.ticks(station, ticks, recorder, outlet, gate),
+            Deed::Flow { rounds } => self.flow(rounds, recorder, outlet, gate),
+            Deed::Deliver { frame, station } => {
+                self.deliver(frame, station, recorder, outlet, gate)
+            }
+            Deed::Feed {
+                first,
+                last,
+                station,
+            } => self.feed(first, last, station, recorder, outlet, gate),
+            Deed::Spread { frame } => self.spread(frame, recorder, outlet, gate),
+            Deed::Lose { frame } => {
+                self.lose(frame);
                 Ok(())
             }
-            Line::Cut { from, to } => {
-                self.cut(self.place(from), self.place(to))?;
+            Deed::Cut { from, to } => {
+                self.cut(from, to)?;
                 Ok(())
             }
-            Line::Mend { from, to } => {
-                self.mend(self.place(from), self.place(to));
+            Deed::Mend { from, to } => {
+                self.mend(from, to);
                 Ok(())
             }
-            Line::Restart { name } => self.restart(self.place(name), recorder, outlet, gate),
-            Line::Send {
-                name,
-                destination,
-                body,
-            } => self.send_body(self.place(name), *destination, body, recorder, outlet, gate),
-            Line::Inject { name, octets } => self.inject(
-                self.place(name),
-                octets,
-                recorder,
-                outlet,
-                gate,
-            ),
-            _ => Ok(()),
+            Deed::Restart { station } => self.restart(station, recorder, outlet, gate),
+            Deed::Send { station, user } => self.send(station, &user, recorder, outlet, gate),
+            Deed::Inject { station, octets } => {
+                self.inject(station, octets, recorder, outlet, gate)
+            }
         }
     }
 
     /// A station starts.
-    fn start<K, R: Recorder<K>, G: Gate>(
+    pub fn start<K, R: Recorder<K>, G: Gate>(
         &mut self,
         name: Name,
         sci: Sci,
@@ -462,40 +443,18 @@ impl Stage {
         self.happen(&Event::Restart { station }, None, recorder, outlet, gate)
     }
 
-    /// A station sends user data to an address.
-    fn send_body<K, R: Recorder<K>, G: Gate>(
-        &mut self,
-        station: u8,
-        destination: Mac,
-        body: &Octets,
-        recorder: &mut R,
-        outlet: &mut K,
-        gate: &G,
-    ) -> Result<(), Halt>
-        ensures { Did R.Took R.Broke (send_new
-            (record { destination = destination; body = body.now }) station)
-            (moment self.old outlet.old) (moment self.new outlet.new) result }
-    {
-        let user = UserFrame {
-            destination,
-            body: body.copied(self.alloc)?,
-        };
-        self.send(station, &user, recorder, outlet, gate)
-    }
-
     /// Foreign octets reach a station.
     fn inject<K, R: Recorder<K>, G: Gate>(
         &mut self,
         station: u8,
-        octets: &Octets,
+        octets: Octets,
         recorder: &mut R,
         outlet: &mut K,
         gate: &G,
     ) -> Result<(), Halt>
-        ensures { Did R.Took R.Broke (happen (events.Inject station octets.now))
+        ensures { Did R.Took R.Broke (happen (events.Inject station octets))
             (moment self.old outlet.old) (moment self.new outlet.new) result }
     {
-        let octets = octets.copied(self.alloc)?;
         octets.as_slice();
         let inject = Event::Inject { station, octets };
         self.happen(&inject, None, recorder, outlet, gate)

@@ -13,3 +13,9 @@ pub returns-in_err-choose-in_default-clause-does : goal.returns-in_err-choose-in
 returns-in_err-choose-in_default-clause-does g c =
     handed-on _ _ _ _ _ (memory-does _ _ _ (λ w stands. stands-counts w _ stands) refl)
     c.from_residual.ensures.1
+
+pub returns-in-Station-clause-does : goal.returns-in-Station-clause-does
+returns-in-Station-clause-does g c = rw c.in-Station.is c.open.ensures.does
+
+pub open-requires-clause-form : goal.open-requires-clause-form
+open-requires-clause-form g c = rw c.in-Station.is at c.requires.form

@@ -2,7 +2,7 @@ use Rattle.std.proofs.Common.{nat_eq, sym, ◌∙◌}
 use Rattle.std.specs.Cmp.Lexicographic.{pointwise}
 use Rattle.lan_core.specs.Standing.{scis_in}
 use Rattle.trace_acts.proofs.Public.{any-map, taken-none, taken-sci}
-use Rattle.lan_schedule.proofs.stage.Stage.taken.Goals as goal
+use Rattle.lan_schedule.proofs.stage.Stage.is_taken.Goals as goal
 
 pub returns-then-has_sci : goal.returns-then-has_sci
 returns-then-has_sci c =
