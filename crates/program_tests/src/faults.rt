@@ -1,7 +1,7 @@
 //! The top call at each failing call of its source and of its sink.
 
 use crate::performing::{FIRST, GROUP, Left, Outside, SECOND, SIX_ROUNDS, STEADY, joined, perform};
-use rollover_program::{AnyGate, Cause, Status};
+use rollover_program::{AnyGate, Status};
 use std::alloc::Global;
 use std::process::Abort;
 use std::thread::Threads;
@@ -99,10 +99,10 @@ fn failing(side: Side, call: u64) -> Outside {
 }
 
 /// Why the program ends where this side fails.
-fn cause(side: Side) -> Cause {
+fn cause(side: Side) -> Status {
     match side {
-        Side::Source => Cause::ReadFault,
-        Side::Sink => Cause::WriteFault,
+        Side::Source => Status::ReadFault,
+        Side::Sink => Status::WriteFault,
     }
 }
 
@@ -119,7 +119,7 @@ fn fronts<R: Threads + Abort + Sync>(rt: &R, alloc: Global, case: &Case, side: S
             assert!(rt; left.held == whole.held, "{}", case.word);
             return call - 1;
         }
-        assert_eq!(rt; left.status, Status::Halted(cause(side)), "{}", case.word);
+        assert_eq!(rt; left.status, cause(side), "{}", case.word);
         before = lengthened(rt, side, &whole, &left, before);
     }
     0

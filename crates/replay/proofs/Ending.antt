@@ -1,5 +1,5 @@
 -- How a run of a text ends, whoever performs it.
-use Rattle.std.proofs.Common.{◌≡◌, ◌⊎◌, ℕ, ◌≤◌, List, ◌++◌, Option, refl, ap, ◌∙◌, subst}
+use Rattle.std.proofs.Common.{◌≡◌, ◌⊎◌, ℕ, ◌≤◌, List, ◌++◌, Option, ap, ◌∙◌, subst}
 use Rattle.std.proofs.Common.{arith, inl, inr}
 use Rattle.std.specs.Prelude.{Result, Ok, Err, length, take, nat_le, cond, Bool, true, false}
 use Rattle.std.proofs.lemmas.Bool.Decides.{nat_tests}
@@ -14,15 +14,12 @@ use Rattle.trace_acts.specs.declared.halt.Halt.TheVariants as halts
 use Rattle.lan_base.specs.declared.sink.Unwritten.{Unwritten}
 use Rattle.lan_base.specs.declared.sink.Unwritten.TheVariants as whys
 use Rattle.trace_acts.specs.Halts.{halt_of_unwritten}
-use Rattle.replay.specs.declared.cause.Cause.{Cause}
-use Rattle.replay.specs.declared.cause.Cause.TheVariants as causes
 use Rattle.replay.specs.Sinks.{Sunk, Wrote, BrokeOff, WroteSome, Fails, joined}
-use Rattle.replay.specs.Causes.{cause_of, cause_of_halt}
 use Rattle.replay.specs.Runs.{most_input, Performing, within, WasPerformed, WasHalted, WasCut}
 use Rattle.replay.specs.Runs.{EndsBy, IsTaken, IsReplayed}
 use Rattle.replay.proofs.Written.{after-after, wrote-held, wrote-counts, Grew}
 
--- ---- causes
+-- ---- halts
 
 -- a halt for a reason of the trace
 abbrev pub Spares : Halt → Type 0
@@ -115,7 +112,7 @@ module _ {Act World M : Type 0} (p : Performing Act World) (IsSuch : World → T
   -- ---- how a text ends
 
   abbrev Shown : (World → List (List ℕ)) → List ℕ → Sourced → Sourced → M → M
-      → Result (Unit {0}) Cause → Type 0
+      → Result (Unit {0}) (End Halt) → Type 0
   Shown at_end text left now old new r =
       EndsBy p IsSuch (record { at_end = at_end; before = texts }) text left now (see old)
       (see new) r
@@ -123,7 +120,7 @@ module _ {Act World M : Type 0} (p : Performing Act World) (IsSuch : World → T
   -- what a text came to that ended early
   by-halt : (at_end : World → List (List ℕ)) (text : List ℕ) (left now : Sourced) (old new : M)
       (halt : Halt) → IsFresh old → Did (within p text) old new (Err halt)
-      → Shown at_end text left now old new (Err (cause_of_halt halt))
+      → Shown at_end text left now old new (Err (ends.Refused halt))
   by-halt at_end text left now old new (halts.Trace line kind) fresh h =
       plays.halted (within p text) old new (halts.Trace line kind) fresh
       (other _ (λ e. cc e) (λ e. cc e)) h
@@ -152,7 +149,7 @@ module _ {Act World M : Type 0} (p : Performing Act World) (IsSuch : World → T
   -- what the lines of a text came to, by the end of reading it
   ends-by : (at_end : World → List (List ℕ)) (text : List ℕ) (left now : Sourced) (old new : M)
       (end : End Halt) → IsFresh old → Runs DidLines most_input text left now old new (Err end)
-      → Shown at_end text left now old new (Err (cause_of end))
+      → Shown at_end text left now old new (Err end)
   ends-by at_end text left now old new (ends.Refused halt) fresh h =
       by-halt at_end text left now old new halt fresh (did-within text old new halt h)
   ends-by at_end text left now old new ends.Memory fresh h =
@@ -211,40 +208,27 @@ module _ {Act World M : Type 0} (p : Performing Act World) (IsSuch : World → T
       )
 
   -- a fault of the sink shows in its count
-  sink-fault : (left now : Sourced) (old new : M) (end : End Halt) → IsFresh old
-      → Takes DidLines most_input left now old new (Err end)
-      → cause_of end ≡ causes.WriteFault → Rose (see old).faults (see new).faults
-  sink-fault left now old new (ends.Refused halts.WriteFault) fresh h is =
-      plays.rose (whole_lines h.earlier) h.last old h.between new fresh h.taken h.ends.1
-  sink-fault left now old new (ends.Refused (halts.Trace line kind)) fresh h is = absurd (cc is)
-  sink-fault left now old new (ends.Refused (halts.Limit which)) fresh h is = absurd (cc is)
-  sink-fault left now old new (ends.Refused (halts.RepeatedDraw a b)) fresh h is = absurd (cc is)
-  sink-fault left now old new (ends.Refused (halts.Forged line)) fresh h is = absurd (cc is)
-  sink-fault left now old new (ends.Refused halts.Memory) fresh h is = absurd (cc is)
-  sink-fault left now old new ends.Memory fresh h is = absurd (cc is)
-  sink-fault left now old new ends.ReadFault fresh h is = absurd (cc is)
-  sink-fault left now old new ends.Limit fresh h is = absurd (cc is)
+  sink-fault : (left now : Sourced) (old new : M) (r : Result (Unit {0}) (End Halt)) → IsFresh old
+      → Takes DidLines most_input left now old new r → r ≡ Err (ends.Refused halts.WriteFault)
+      → Rose (see old).faults (see new).faults
+  sink-fault left now old new r fresh h is =
+      let t = subst (λ (r : Result (Unit {0}) (End Halt)). Takes DidLines most_input left now old new r) is h in
+      plays.rose (whole_lines t.earlier) t.last old t.between new fresh t.taken t.ends.1
 
-  source-fault : (left now : Sourced) (old new : M) (end : End Halt)
-      → Takes DidLines most_input left now old new (Err end)
-      → cause_of end ≡ causes.ReadFault → Rose left.faults now.faults
-  source-fault left now old new ends.ReadFault h is = h.ends.0
-  source-fault left now old new (ends.Refused halts.WriteFault) h is = absurd (cc is)
-  source-fault left now old new (ends.Refused (halts.Trace line kind)) h is = absurd (cc is)
-  source-fault left now old new (ends.Refused (halts.Limit which)) h is = absurd (cc is)
-  source-fault left now old new (ends.Refused (halts.RepeatedDraw a b)) h is = absurd (cc is)
-  source-fault left now old new (ends.Refused (halts.Forged line)) h is = absurd (cc is)
-  source-fault left now old new (ends.Refused halts.Memory) h is = absurd (cc is)
-  source-fault left now old new ends.Memory h is = absurd (cc is)
-  source-fault left now old new ends.Limit h is = absurd (cc is)
+  source-fault : (left now : Sourced) (old new : M) (r : Result (Unit {0}) (End Halt))
+      → Takes DidLines most_input left now old new r → r ≡ Err ends.ReadFault
+      → Rose left.faults now.faults
+  source-fault left now old new r h is =
+      let t = subst (λ (r : Result (Unit {0}) (End Halt)). Takes DidLines most_input left now old new r) is h in
+      t.ends.0
 
   -- ---- a whole replay
 
-  abbrev failed : Cause → Result (Unit {0}) Cause
-  failed cause = Err cause
+  abbrev refused : Halt → Result (Unit {0}) (End Halt)
+  refused halt = Err (ends.Refused halt)
 
   abbrev Replayed : (World → List (List ℕ)) → Sourced → Sourced → M → M
-      → Result (Unit {0}) Cause → Type 0
+      → Result (Unit {0}) (End Halt) → Type 0
   Replayed at_end left now old new r =
       IsReplayed p IsSuch (record { at_end = at_end; before = texts }) left now (see old) (see new)
       r
@@ -253,7 +237,7 @@ module _ {Act World M : Type 0} (p : Performing Act World) (IsSuch : World → T
   pub replayed-err : (at_end : World → List (List ℕ)) (left now : Sourced) (old new : M)
       (end : End Halt) → IsFresh old → left.faults ≤ now.faults
       → Reads DidLines most_input left now old new (Err end)
-      → Replayed at_end left now old new (Err (cause_of end))
+      → Replayed at_end left now old new (Err end)
   replayed-err at_end left now old new end fresh counts h =
       let t = took at_end left now old new (Err end) fresh h.takes in record {
         told = λ text is. record {
@@ -262,12 +246,9 @@ module _ {Act World M : Type 0} (p : Performing Act World) (IsSuch : World → T
         };
         reads = counts;
         writes = t.1;
-        read_fault = λ is. source-fault left now old new end h.takes (cause-is _ _ is);
-        write_fault = λ is. sink-fault left now old new end fresh h.takes (cause-is _ _ is);
+        read_fault = λ is. source-fault left now old new (Err end) h.takes is;
+        write_fault = λ is. sink-fault left now old new (Err end) fresh h.takes is;
       }
-    where
-      cause-is : (a b : Cause) → failed a ≡ failed b → a ≡ b
-      cause-is a b e = cc e
 
   -- the text may not end there
   pub closed-err : (at_end : World → List (List ℕ)) (left now : Sourced) (old new : M) (halt : Halt)
@@ -275,7 +256,7 @@ module _ {Act World M : Type 0} (p : Performing Act World) (IsSuch : World → T
       → (halt ≡ halts.WriteFault → ⊥)
       → ((text : List ℕ) → DidLines (lines_of text) old new (Ok tt)
       → Did (p.whole text) old new (Err halt))
-      → Replayed at_end left now old new (Err (cause_of_halt halt))
+      → Replayed at_end left now old new (Err (ends.Refused halt))
   closed-err at_end left now old new halt fresh counts h unbroken closes =
       let t = took at_end left now old new (Ok tt) fresh h.takes in record {
         told = λ text is.
@@ -286,26 +267,12 @@ module _ {Act World M : Type 0} (p : Performing Act World) (IsSuch : World → T
             };
         reads = counts;
         writes = t.1;
-        read_fault = λ is. absurd (unread halt is);
-        write_fault = λ is. absurd (unwritten halt unbroken is);
+        read_fault = λ is. absurd (cc is);
+        write_fault = λ is. absurd (unbroken (halt-is halt halts.WriteFault is));
       }
     where
-      unread : (halt : Halt) → failed (cause_of_halt halt) ≡ failed causes.ReadFault → ⊥
-      unread halts.WriteFault is = cc is
-      unread (halts.Trace line kind) is = cc is
-      unread (halts.Limit which) is = cc is
-      unread (halts.RepeatedDraw a b) is = cc is
-      unread (halts.Forged line) is = cc is
-      unread halts.Memory is = cc is
-
-      unwritten : (halt : Halt) → (halt ≡ halts.WriteFault → ⊥)
-          → failed (cause_of_halt halt) ≡ failed causes.WriteFault → ⊥
-      unwritten halts.WriteFault unbroken is = unbroken refl
-      unwritten (halts.Trace line kind) unbroken is = cc is
-      unwritten (halts.Limit which) unbroken is = cc is
-      unwritten (halts.RepeatedDraw a b) unbroken is = cc is
-      unwritten (halts.Forged line) unbroken is = cc is
-      unwritten halts.Memory unbroken is = cc is
+      halt-is : (a b : Halt) → refused a ≡ refused b → a ≡ b
+      halt-is a b e = cc e
 
   -- a transcript, to the end of the source
   pub transcribed : (left now : Sourced) (old new : M) → IsFresh old → left.faults ≤ now.faults

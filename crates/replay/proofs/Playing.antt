@@ -7,6 +7,7 @@ use Rattle.lan_base.specs.Told.{after}
 use Rattle.text_lines.specs.Texts.{lines_of}
 use Rattle.text_lines.specs.Moments.{Moment as LinesMoment}
 use Rattle.text_lines.specs.declared.reading.End.{End}
+use Rattle.text_lines.specs.declared.reading.End.TheVariants as ends
 use Rattle.text_lines.specs.Reading.{Sourced, Takes, Runs, Reads}
 use Rattle.trace_acts.specs.declared.halt.Halt.{Halt}
 use Rattle.trace_acts.specs.declared.halt.Halt.TheVariants as halts
@@ -22,14 +23,12 @@ use Rattle.lan_schedule.specs.Ends.{IsReached, WasTold, WasBroken as RecorderBro
 use Rattle.lan_schedule.specs.Sound.{IsTidy}
 use Rattle.lan_schedule.specs.Standing.{StandsFor, Closes}
 use Rattle.lan_schedule.proofs.Public.{way-begun, way-front, does-whole, does-whole-early}
-use Rattle.replay.specs.declared.cause.Cause.TheVariants as causes
 use Rattle.replay.specs.Sinks.{Sunk, Wrote, BrokeOff, WroteSome, Fails}
 use Rattle.replay.specs.Shown.{summary_of}
-use Rattle.replay.specs.Causes.{answered, cause_of, cause_of_halt, ended}
 use Rattle.replay.specs.Runs.{most_input, WasPerformed, WasHalted, WasCut, EndsBy, IsTaken}
 use Rattle.replay.specs.Runs.{IsReplayed, Shows}
 use Rattle.replay.specs.OneGroup.{one_group, whole, IsSettled}
-use Rattle.replay.specs.declared.cause.Cause.{Cause}
+use Rattle.replay.specs.inside.Ended.{answered, ended}
 use Rattle.replay.specs.inside.Playing.{DidAct, DidLines}
 use Rattle.replay.specs.inside.Summing.{SumsUp}
 use Rattle.replay.proofs.Written.{after-after, rose-earlier, wrote-counts, fails-broke}
@@ -273,7 +272,7 @@ module _ {P K : Type 0} (given : Given) (Took : K → Report → K → Type 0)
       → Reads (DidLines Took Broke of) most_input left now old new (Ok tt)
       → ((w : World) → StandsFor w (of new) → Closes w (Err halt))
       → IsReplayed one_group IsSettled (record { at_end = at_end; before = texts }) left now
-      (seen old) (seen new) (Err (cause_of_halt halt))
+      (seen old) (seen new) (Err (ends.Refused halt))
   ended-badly at_end left now old new halt fresh counts h closes =
       let at = last-world left now old new fresh h.takes in
       closed-err one_group IsSettled texts IsFresh seen (DidAct Took Broke of) plays at_end left now
@@ -380,14 +379,14 @@ module _ {P K : Type 0} (given : Given) (Took : K → Report → K → Type 0)
       grew-by (Err why) f =
           grew-broke (line ∷ []) (see mid.outlet) new (fails-broke (line ∷ []) _ _ why f)
 
-      unread : (r : Result (Unit {0}) Unwritten) → answered r ≡ Err causes.ReadFault → ⊥
+      unread : (r : Result (Unit {0}) Unwritten) → answered r ≡ Err ends.ReadFault → ⊥
       unread (Ok done) e = cc e
       unread (Err whys.Failed) e = cc e
       unread (Err whys.Memory) e = cc e
 
       rises : (r : Result (Unit {0}) Unwritten)
           → MatchResult r (λ done. Wrote (line ∷ []) (see mid.outlet) new)
-          (λ why. Fails (line ∷ []) (see mid.outlet) new why) → answered r ≡ Err causes.WriteFault
+          (λ why. Fails (line ∷ []) (see mid.outlet) new why) → answered r ≡ Err (ends.Refused halts.WriteFault)
           → Rose (see mid.outlet).faults new.faults
       rises (Ok done) f e = absurd (cc e)
       rises (Err whys.Failed) f e = f.0
@@ -395,18 +394,18 @@ module _ {P K : Type 0} (given : Given) (Took : K → Report → K → Type 0)
 
   -- nothing is written behind a run that ended badly
   unwritten : (left now : Sourced) (old mid : LinesMoment P K) (new : Sunk)
-      (result bad : Result (Unit {0}) Cause) → new ≡ see mid.outlet → result ≡ bad
+      (result bad : Result (Unit {0}) (End Halt)) → new ≡ see mid.outlet → result ≡ bad
       → IsReplayed one_group IsSettled summed left now (see old.outlet) (see mid.outlet) bad
       → IsReplayed one_group IsSettled summed left now (see old.outlet) new result
   unwritten left now old mid new result bad same is r =
       subst (λ (s : Sunk). IsReplayed one_group IsSettled summed left now (see old.outlet) s result)
       (sym same)
-      (subst (λ (x : Result (Unit {0}) Cause). IsReplayed one_group IsSettled summed left now
+      (subst (λ (x : Result (Unit {0}) (End Halt)). IsReplayed one_group IsSettled summed left now
       (see old.outlet) (see mid.outlet) x) (sym is) r)
 
   summed-by : (line : List ℕ) (left now : Sourced) (old mid : LinesMoment P K) (new : Sunk)
       (read : Result (Unit {0}) (End Halt)) (may : Result (Unit {0}) Halt)
-      (result : Result (Unit {0}) Cause)
+      (result : Result (Unit {0}) (End Halt))
       → ((chances : List Chance) → StandsFor (beginning chances) (of old))
       → left.faults ≤ now.faults → Reads (DidLines Took Broke of) most_input left now old mid read
       → ((w : World) → StandsFor w (of mid) → Closes w may)
@@ -414,22 +413,22 @@ module _ {P K : Type 0} (given : Given) (Took : K → Report → K → Type 0)
       → SumsUp (ended read may) line (see mid.outlet) new result
       → IsReplayed one_group IsSettled summed left now (see old.outlet) new result
   summed-by line left now old mid new (Ok done) (Ok may) result fresh counts h closes is s =
-      subst (λ (x : Result (Unit {0}) Cause). IsReplayed one_group IsSettled summed left now
+      subst (λ (x : Result (Unit {0}) (End Halt)). IsReplayed one_group IsSettled summed left now
       (see old.outlet) new x) (sym s.2)
       (summarized line left now old mid new s.0 fresh counts h closes is s.1)
   summed-by line left now old mid new (Ok done) (Err halt) result fresh counts h closes is s =
-      unwritten left now old mid new result (Err (cause_of_halt halt)) s.0 s.1
+      unwritten left now old mid new result (Err (ends.Refused halt)) s.0 s.1
       (ended-badly given Took Broke of see (λ xs. []) shows (λ w. summary_of w.run ∷ []) left now
       old mid halt fresh counts h closes)
   summed-by line left now old mid new (Err end) may result fresh counts h closes is s =
-      unwritten left now old mid new result (Err (cause_of end)) s.0 s.1
+      unwritten left now old mid new result (Err end) s.0 s.1
       (replayed-err one_group IsSettled _ _ _ _ (plays given Took Broke of see (λ xs. []) shows)
       (λ w. summary_of w.run ∷ []) left now old mid end fresh counts h)
 
   -- how a run for its summary ends, whichever way its lines were read, and whether it may end there
   pub summed-as : (line : List ℕ) (left now : Sourced) (old mid : LinesMoment P K) (new : Sunk)
       (read : Result (Unit {0}) (End Halt)) (may : Result (Unit {0}) Halt)
-      (out result : Result (Unit {0}) Cause)
+      (out result : Result (Unit {0}) (End Halt))
       → ((chances : List Chance) → StandsFor (beginning chances) (of old))
       → left.faults ≤ now.faults → Reads (DidLines Took Broke of) most_input left now old mid read
       → ((w : World) → StandsFor w (of mid) → Closes w may)
@@ -438,4 +437,4 @@ module _ {P K : Type 0} (given : Given) (Took : K → Report → K → Type 0)
       → IsReplayed one_group IsSettled summed left now (see old.outlet) new result
   summed-as line left now old mid new read may out result fresh counts h closes is same s =
       summed-by line left now old mid new read may result fresh counts h closes is
-      (subst (λ (x : Result (Unit {0}) Cause). SumsUp x line (see mid.outlet) new result) same s)
+      (subst (λ (x : Result (Unit {0}) (End Halt)). SumsUp x line (see mid.outlet) new result) same s)

@@ -2,7 +2,6 @@
 -- a run of a text ends, whoever performs it, and how a trace of one group is performed.
 pub mod Sinks
 pub mod Shown
-pub mod Causes
 pub mod Runs
 pub mod OneGroup
 pub mod inside

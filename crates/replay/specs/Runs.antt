@@ -5,12 +5,12 @@ use Rattle.std.specs.Prelude.{length, take, Some}
 use Rattle.std.specs.Prelude.{Result, Ok, Err}
 use Rattle.lan_base.specs.Faults.{Rose}
 use Rattle.lan_base.specs.Told.{before, after}
+use Rattle.text_lines.specs.declared.reading.End.{End}
+use Rattle.text_lines.specs.declared.reading.End.TheVariants as ends
 use Rattle.text_lines.specs.Texts.{whole_lines}
 use Rattle.text_lines.specs.Reading.{Sourced, most_at_once}
 use Rattle.trace_acts.specs.declared.halt.Halt.{Halt}
 use Rattle.trace_acts.specs.declared.halt.Halt.TheVariants as halts
-use Rattle.replay.specs.declared.cause.Cause.{Cause}
-use Rattle.replay.specs.declared.cause.Cause.TheVariants as causes
 use Rattle.replay.specs.Sinks.{Sunk, Wrote, BrokeOff, WroteSome, joined}
 
 -- an input has at most so many octets
@@ -70,40 +70,38 @@ WasBroken p IsSuch Did shows text now =
 
 -- ---- how it ends
 
--- By the cause. At the end all of the text was performed and shown. Where a line is refused, or the
--- text ends where it may not, a limit is reached, a draw repeated or a frame forged, performing the
--- text stops so. At a fault of the source, and where an octet past the limit was taken, those lines
--- were performed that end in what was taken, or within the limit. A fault of the sink and want of
--- memory break off what was shown.
+-- By why performing the text halted. A fault of the sink and want of memory break off what was shown.
+-- Where a line is refused, or the text ends where it may not, a limit is reached, a draw repeated or a
+-- frame forged, performing the text stops so.
+abbrev pub HaltsBy : {Act World : Type 0} → Performing Act World → (World → Type 0) → Shows World
+    → List ℕ → Sourced → Sunk → Sunk → Halt → Type 0
+HaltsBy p IsSuch shows text now old new halts.WriteFault =
+    Rose old.faults new.faults
+    × WasBroken p IsSuch (λ texts. BrokeOff texts old new) shows text now
+HaltsBy p IsSuch shows text now old new halts.Memory =
+    WasBroken p IsSuch (λ texts. WroteSome texts old new) shows text now
+HaltsBy p IsSuch shows text now old new halt =
+    WasHalted p IsSuch (λ texts. Wrote texts old new) shows.before (within p text) halt
+
+-- By the answer. At the end all of the text was performed and shown. At a fault of the source, and
+-- where an octet past the limit was taken, those lines were performed that end in what was taken, or
+-- within the limit. Want of memory is the same wherever it comes.
 abbrev pub EndsBy : {Act World : Type 0} → Performing Act World → (World → Type 0) → Shows World
-    → List ℕ → Sourced → Sourced → Sunk → Sunk → Result (Unit {0}) Cause → Type 0
+    → List ℕ → Sourced → Sourced → Sunk → Sunk → Result (Unit {0}) (End Halt) → Type 0
 EndsBy p IsSuch shows text left now old new (Ok done) =
     (length text ≤ most_input) × (now.left ≡ Some [])
     × WasPerformed p IsSuch (λ texts. Wrote texts old new) shows.at_end (p.whole text)
-EndsBy p IsSuch shows text left now old new (Err (causes.Trace line kind)) =
-    WasHalted p IsSuch (λ texts. Wrote texts old new) shows.before (within p text)
-    (halts.Trace line kind)
-EndsBy p IsSuch shows text left now old new (Err (causes.Limit which)) =
-    WasHalted p IsSuch (λ texts. Wrote texts old new) shows.before (within p text)
-    (halts.Limit which)
-EndsBy p IsSuch shows text left now old new (Err (causes.RepeatedDraw first second)) =
-    WasHalted p IsSuch (λ texts. Wrote texts old new) shows.before (within p text)
-    (halts.RepeatedDraw first second)
-EndsBy p IsSuch shows text left now old new (Err (causes.Forged line)) =
-    WasHalted p IsSuch (λ texts. Wrote texts old new) shows.before (within p text)
-    (halts.Forged line)
-EndsBy p IsSuch shows text left now old new (Err causes.Input) =
+EndsBy p IsSuch shows text left now old new (Err (ends.Refused halt)) =
+    HaltsBy p IsSuch shows text now old new halt
+EndsBy p IsSuch shows text left now old new (Err ends.Memory) =
+    HaltsBy p IsSuch shows text now old new halts.Memory
+EndsBy p IsSuch shows text left now old new (Err ends.Limit) =
     (most_input < length text) × WasPerformed p IsSuch (λ texts. Wrote texts old new) shows.before
     (p.lines (whole_lines (take most_input text)))
-EndsBy p IsSuch shows text left now old new (Err causes.ReadFault) =
+EndsBy p IsSuch shows text left now old new (Err ends.ReadFault) =
     Rose left.faults now.faults × ((taken : List ℕ) × (left.left ≡ before taken now.left)
     × (length taken ≤ most_input) × WasPerformed p IsSuch (λ texts. Wrote texts old new)
     shows.before (p.lines (whole_lines taken)))
-EndsBy p IsSuch shows text left now old new (Err causes.WriteFault) =
-    Rose old.faults new.faults
-    × WasBroken p IsSuch (λ texts. BrokeOff texts old new) shows text now
-EndsBy p IsSuch shows text left now old new (Err causes.Memory) =
-    WasBroken p IsSuch (λ texts. WroteSome texts old new) shows text now
 
 -- Octets were taken: earlier ones, and then a piece that was asked for at once. All lines that end in
 -- the earlier ones were performed and shown before that.
@@ -122,7 +120,7 @@ pub record IsTaken {Act World : Type 0} (p : Performing Act World) (shows : Show
 -- a run of this text was shown, and ended so
 pub record EndsRun {Act World : Type 0} (p : Performing Act World) (IsSuch : World → Type 0)
     (shows : Shows World) (text : List ℕ) (left now : Sourced) (old new : Sunk)
-    (result : Result (Unit {0}) Cause) : Type 0 where
+    (result : Result (Unit {0}) (End Halt)) : Type 0 where
   pub taken : IsTaken p shows left now old new
   pub ends : EndsBy p IsSuch shows text left now old new result
 
@@ -130,10 +128,10 @@ pub record EndsRun {Act World : Type 0} (p : Performing Act World) (IsSuch : Wor
 -- outside, whatever that tells
 pub record IsReplayed {Act World : Type 0} (p : Performing Act World) (IsSuch : World → Type 0)
     (shows : Shows World) (left now : Sourced) (old new : Sunk)
-    (result : Result (Unit {0}) Cause) : Type 0 where
+    (result : Result (Unit {0}) (End Halt)) : Type 0 where
   pub told : (text : List ℕ) → left.left ≡ Some text
       → EndsRun p IsSuch shows text left now old new result
   pub reads : left.faults ≤ now.faults
   pub writes : old.faults ≤ new.faults
-  pub read_fault : result ≡ Err causes.ReadFault → Rose left.faults now.faults
-  pub write_fault : result ≡ Err causes.WriteFault → Rose old.faults new.faults
+  pub read_fault : result ≡ Err ends.ReadFault → Rose left.faults now.faults
+  pub write_fault : result ≡ Err (ends.Refused halts.WriteFault) → Rose old.faults new.faults

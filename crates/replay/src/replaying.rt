@@ -9,7 +9,7 @@ ghost use Rattle.replay.specs.inside.Summing.{SumsUp};
 ghost use Rattle.fact_tally.specs.Summary.{line_of};
 ghost use Rattle.std.specs.Prelude.{[], ◌∷◌, MatchResult};
 
-use crate::cause::{Cause, answered, ended};
+use crate::ended::{answered, ended};
 use crate::gate::AnyGate;
 use crate::player::Player;
 use crate::transcribing::Transcript;
@@ -20,7 +20,8 @@ use lan_base::{Sink, Source, Unwritten};
 use lan_schedule::{Replay, law_acts_stop_for_their_own_reasons, law_lines_leave_a_tidy_world};
 use std::alloc::Global;
 use std::thread::Threads;
-use text_lines::read_lines;
+use text_lines::{End, read_lines};
+use trace_acts::Halt;
 
 /// The greatest count of octets of an input.
 pub const MAX_INPUT: usize = 4_194_304;
@@ -38,7 +39,7 @@ pub fn replay<T: Threads + Sync, S: Source, K: Sink>(
     sink: &mut K,
     gate: &AnyGate,
     summary: bool,
-) -> Result<(), Cause>
+) -> Result<(), End<Halt>>
     ensures { IsReplayed one_group IsSettled (shown_by summary)
         (sourced (S.left source.old) (S.faults source.old))
         (sourced (S.left source.new) (S.faults source.new))
@@ -59,7 +60,7 @@ fn transcribe<T: Threads + Sync, S: Source, K: Sink>(
     source: &mut S,
     sink: &mut K,
     gate: &AnyGate,
-) -> Result<(), Cause>
+) -> Result<(), End<Halt>>
     ensures { IsReplayed one_group IsSettled (shown_by false)
         (sourced (S.left source.old) (S.faults source.old))
         (sourced (S.left source.new) (S.faults source.new))
@@ -86,7 +87,7 @@ fn summarize<T: Threads + Sync, S: Source, K: Sink>(
     source: &mut S,
     sink: &mut K,
     gate: &AnyGate,
-) -> Result<(), Cause>
+) -> Result<(), End<Halt>>
     ensures { IsReplayed one_group IsSettled (shown_by true)
         (sourced (S.left source.old) (S.faults source.old))
         (sourced (S.left source.new) (S.faults source.new))
@@ -109,10 +110,10 @@ fn summarize<T: Threads + Sync, S: Source, K: Sink>(
 /// Writes the summary line of a run that ended well, and else nothing.
 fn sum_up<K: Sink>(
     alloc: Global,
-    ended: Result<(), Cause>,
+    ended: Result<(), End<Halt>>,
     tally: &Tally,
     sink: &mut K,
-) -> Result<(), Cause>
+) -> Result<(), End<Halt>>
     ensures { SumsUp ended (line_of tally.now) (sunk (K.held sink.old) (K.faults sink.old))
         (sunk (K.held sink.new) (K.faults sink.new)) result }
 {

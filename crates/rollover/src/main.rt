@@ -3,7 +3,7 @@
 #![tactic(auto)]
 
 use lan_base::{StdSink, StdSource};
-use rollover_program::{AnyGate, Cause, Joined, Status, Unread, key_file, rollover};
+use rollover_program::{AnyGate, Joined, Status, Unread, key_file, rollover};
 use std::alloc::AllocError;
 use std::process::ExitCode;
 use std::{env, fs, io};
@@ -43,7 +43,7 @@ fn main(rt: HostRuntime) -> ExitCode {
             // Whether the words are a command comes first: what can't be read is given them to read.
             Err(_) => rollover(&rt, alloc, &words, &mut Unread, &mut sink, &gate),
         },
-        Err(_) => Status::Halted(Cause::Memory),
+        Err(_) => Status::Memory,
     };
     if status != Status::Done {
         // Where standard error fails too, the number is all that is left to tell.

@@ -11,17 +11,16 @@ use Rattle.audit_report.specs.Tallies.{tally_of}
 use Rattle.audit_report.specs.Verdicts.{doubt}
 use Rattle.key_ring.specs.Rings.{Ring}
 use Rattle.replay.specs.Sinks.{Sunk}
-use Rattle.replay.specs.declared.cause.Cause.TheVariants as causes
-use Rattle.rollover_program.specs.declared.status.Status.TheVariants.{Usage, Halted}
+use Rattle.rollover_program.specs.declared.status.Status.TheVariants.{Usage, ReadFault, WriteFault, Memory}
 use Rattle.rollover_program.specs.commands.Audit.{EndsAsAudit, EndsAsView, EndsJudged, status_of_audit}
 
 -- nothing was done, for want of memory
 pub not_audited : (asks : Asks) (text : List ℕ) (left held : Option (List ℕ)) (failed : Type 0)
-    → EndsAsAudit asks text left failed held held (Halted causes.Memory)
+    → EndsAsAudit asks text left failed held held Memory
 not_audited asks text left held failed = (Err ends.Memory, inl refl, refl)
 
 pub not_viewed : (asks : Asks) (text : List ℕ) (left : Option (List ℕ)) (failed : Type 0) (old : Sunk)
-    → EndsAsView asks text left failed old old (Halted causes.Memory)
+    → EndsAsView asks text left failed old old Memory
 not_viewed asks text left failed old = (Err ends.Memory, tt, inl refl, (refl, refl))
 
 -- ---- a capture was judged
@@ -38,7 +37,7 @@ audit_no_usage (Err ends.ReadFault) e = cc e
 audit_no_usage (Err ends.WriteFault) e = cc e
 audit_no_usage (Err ends.Memory) e = cc e
 
-pub audit_read : (r : Result (Unit {0}) AuditEnd) → status_of_audit r ≡ Halted causes.ReadFault
+pub audit_read : (r : Result (Unit {0}) AuditEnd) → status_of_audit r ≡ ReadFault
     → r ≡ Err ends.ReadFault
 audit_read (Ok done) e = absurd (cc e)
 audit_read (Err (ends.KeyLine line why)) e = absurd (cc e)
@@ -51,7 +50,7 @@ audit_read (Err ends.ReadFault) e = refl
 audit_read (Err ends.WriteFault) e = absurd (cc e)
 audit_read (Err ends.Memory) e = absurd (cc e)
 
-pub audit_write : (r : Result (Unit {0}) AuditEnd) → status_of_audit r ≡ Halted causes.WriteFault
+pub audit_write : (r : Result (Unit {0}) AuditEnd) → status_of_audit r ≡ WriteFault
     → r ≡ Err ends.WriteFault
 audit_write (Ok done) e = absurd (cc e)
 audit_write (Err (ends.KeyLine line why)) e = absurd (cc e)
@@ -99,7 +98,7 @@ module _ (asks : Asks) (failed : Type 0) (ring : Ring) (packets : List Unwrapped
 
   pub complete_audit : (r : Result (Unit {0}) AuditEnd) → (failed → ⊥) → (r ≡ Err ends.ReadFault → ⊥)
       → (r ≡ Err ends.WriteFault → ⊥) → IsTold r → IsSound r
-      → EndsJudged asks ring packets (status_of_audit r) ⊎ (status_of_audit r ≡ Halted causes.Memory)
+      → EndsJudged asks ring packets (status_of_audit r) ⊎ (status_of_audit r ≡ Memory)
   complete_audit (Err ends.Memory) whole reads writes told sound = inr refl
   complete_audit (Ok done) whole reads writes told sound =
       inl (judged (Ok done) whole reads writes (λ e. cc e) told sound)

@@ -1,13 +1,17 @@
 -- How the program ends after a trace was performed or made.
 use Rattle.std.proofs.Common.{◌≡◌, ℕ, ◌<◌, ◌≤◌, true, false, List, [], ◌∷◌, Bool, length, take, Option}
-use Rattle.std.proofs.Common.{refl, sym, ap, subst, inl, inr, arith, append-nil}
+use Rattle.std.proofs.Common.{refl, sym, ap, subst, inl, inr, arith, append-nil, ◌∙◌}
 use Rattle.std.specs.Prelude.{◌⊎◌, nat_le, Some, None, Result, Ok, Err}
 use Rattle.std.proofs.lemmas.Bool.Decides.{nat_tests}
+use Rattle.lan_base.specs.declared.sink.Unwritten.{Unwritten}
+use Rattle.lan_base.specs.declared.sink.Unwritten.TheVariants as whys
 use Rattle.lan_base.specs.Faults.{Rose}
 use Rattle.lan_base.specs.Told.{before, after}
 use Rattle.trace_maker.specs.Made.{made}
 use Rattle.text_lines.specs.Texts.{whole_lines}
 use Rattle.text_lines.specs.Reading.{Sourced, sourced}
+use Rattle.text_lines.specs.declared.reading.End.{End}
+use Rattle.text_lines.specs.declared.reading.End.TheVariants as ends
 use Rattle.trace_acts.specs.declared.halt.Halt.{Halt}
 use Rattle.trace_acts.specs.declared.halt.Halt.TheVariants as halts
 use Rattle.lan_schedule.specs.Races.{Chance}
@@ -16,50 +20,66 @@ use Rattle.lan_schedule.specs.Acts.{Course, Goes, course}
 use Rattle.lan_schedule.specs.Lines.{performed_all}
 use Rattle.lan_schedule.specs.Sound.{IsTidy}
 use Rattle.lan_schedule.proofs.Public.{way-start}
-use Rattle.replay.specs.declared.cause.Cause.{Cause}
-use Rattle.replay.specs.declared.cause.Cause.TheVariants as causes
 use Rattle.replay.specs.Sinks.{Sunk, BrokeOff}
-use Rattle.replay.specs.Causes.{cause_of_halt}
 use Rattle.replay.specs.Runs.{most_input, Performing, Shows, within, EndsRun}
 use Rattle.replay.specs.OneGroup.{one_group, shown_by, whole, IsSettled}
 use Rattle.replay.proofs.Public.{runs-weaker, broke-one}
 use Rattle.rollover_program.specs.declared.status.Status.{Status}
-use Rattle.rollover_program.specs.declared.status.Status.TheVariants.{Done, Usage, Halted, CheckInput, Refuted, Transcript, CaptureInput, Unrecorded, Capture, KeyLine, Keys, CaptureRefuted, CaptureDoubted, Packets}
+use Rattle.rollover_program.specs.declared.status.Status.TheVariants.{Done, Usage, CheckInput, Refuted, Transcript, CaptureInput, Unrecorded, Capture, KeyLine, Keys, CaptureRefuted, CaptureDoubted, Packets, Trace, ReadFault, WriteFault, Memory, Input, Limit, RepeatedDraw, Forged}
 use Rattle.rollover_program.specs.Headline.{IsPromised}
 use Rattle.rollover_program.specs.commands.Run.{Answers, EndsAsRun, EndsWithin, halt_in}
-use Rattle.rollover_program.specs.commands.Run.{status_after, status_within}
+use Rattle.rollover_program.specs.commands.Run.{status_after, status_of_halt, status_of_replay, status_within}
 use Rattle.rollover_program.specs.commands.Make.{EndsMade}
 use Rattle.rollover_program.specs.commands.Try.{EndsTried}
-use Rattle.rollover_program.specs.inside.Answering.{status_of}
+use Rattle.rollover_program.specs.inside.Answering.{status_of_unwritten}
 
 abbrev pub Answer : Type 0
-Answer = Result (Unit {0}) Cause
+Answer = Result (Unit {0}) (End Halt)
 
 -- ---- the status of an answer
 
-pub caused : (r : Answer) (cause : Cause) → status_of r ≡ Halted cause → r ≡ Err cause
-caused (Ok done) cause e = absurd cc
-caused (Err other) cause e =
-    let same : other ≡ cause = cc in
-    ap (λ (x : Cause). Err x) same
+-- the answer of which this is the status; of want of memory there are two
+abbrev answer_of : Status → Answer
+answer_of Done = Ok tt
+answer_of (Trace line kind) = Err (ends.Refused (halts.Trace line kind))
+answer_of ReadFault = Err ends.ReadFault
+answer_of WriteFault = Err (ends.Refused halts.WriteFault)
+answer_of Input = Err ends.Limit
+answer_of (Limit which) = Err (ends.Refused (halts.Limit which))
+answer_of (RepeatedDraw first second) = Err (ends.Refused (halts.RepeatedDraw first second))
+answer_of (Forged line) = Err (ends.Refused (halts.Forged line))
+answer_of status = Err ends.Memory
 
-pub never_usage : (r : Answer) → status_of r ≡ Usage → ⊥
-never_usage (Ok done) e = cc
-never_usage (Err cause) e = cc
+answer_at : (r : Answer) → (status_of_replay r ≡ Memory → ⊥) → r ≡ answer_of (status_of_replay r)
+answer_at (Ok tt) other = refl
+answer_at (Err (ends.Refused (halts.Trace line kind))) other = refl
+answer_at (Err (ends.Refused halts.Memory)) other = absurd (other refl)
+answer_at (Err (ends.Refused halts.WriteFault)) other = refl
+answer_at (Err (ends.Refused (halts.Limit which))) other = refl
+answer_at (Err (ends.Refused (halts.RepeatedDraw first second))) other = refl
+answer_at (Err (ends.Refused (halts.Forged line))) other = refl
+answer_at (Err ends.Memory) other = refl
+answer_at (Err ends.ReadFault) other = refl
+answer_at (Err ends.Limit) other = refl
 
-answers : (Ends : Answer → Type 0) (r : Answer) → Ends r → Answers Ends (status_of r)
-answers Ends (Ok tt) e = e
-answers Ends (Err cause) e = e
+pub caused : (r : Answer) (status : Status) → (status ≡ Memory → ⊥) → status_of_replay r ≡ status
+    → r ≡ answer_of status
+caused r status other is =
+    answer_at r (λ e. other (sym is ∙ e)) ∙ ap (λ (s : Status). answer_of s) is
+
+pub never_usage : (r : Answer) → status_of_replay r ≡ Usage → ⊥
+never_usage r is =
+    let wanting = ap (λ (x : Answer). status_of_replay x) (caused r Usage (λ e. cc e) is) in
+    cc (sym wanting ∙ is)
 
 -- a run of which more is known ended as its answer says
 pub ran_as : {Act World : Type 0} (p : Performing Act World) (IsSuch IsOther : World → Type 0)
     → ((w : World) → IsSuch w → IsOther w) → (shows : Shows World) (text : List ℕ)
     (left now : Sourced) (old new : Sunk) (r : Answer)
     → EndsRun p IsSuch shows text left now old new r
-    → Answers (λ r. EndsRun p IsOther shows text left now old new r) (status_of r)
+    → Answers (λ r. EndsRun p IsOther shows text left now old new r) (status_of_replay r)
 ran_as p IsSuch IsOther weaker shows text left now old new r h =
-    answers (λ r. EndsRun p IsOther shows text left now old new r) r
-    (runs-weaker p IsSuch IsOther weaker shows text left now old new r h)
+    (r, runs-weaker p IsSuch IsOther weaker shows text left now old new r h, refl)
 
 -- all is promised of each tidy world outside a race
 abbrev pub Promise : Type 0
@@ -67,7 +87,7 @@ Promise = (w : LanWorld) → IsTidy w → is_racing w.kept.phase ≡ false → I
 
 pub ran : Promise → (summary : Bool) (text : List ℕ) (left now : Sourced) (old new : Sunk) (r : Answer)
     → EndsRun one_group IsSettled (shown_by summary) text left now old new r
-    → EndsAsRun summary text left now old new (status_of r)
+    → EndsAsRun summary text left now old new (status_of_replay r)
 ran promise summary text left now old new r h =
     ran_as one_group IsSettled IsPromised (λ w settled. promise w settled.tidy settled.apart)
     (shown_by summary) text left now old new r h
@@ -86,7 +106,7 @@ held_nothing (Some octets) = ap (λ (o : List ℕ). Some o) (sym (append-nil oct
 pub none_done : {Act World : Type 0} (p : Performing Act World) (IsSuch : World → Type 0)
     (shows : Shows World) (w : World) (text : List ℕ) (left : Sourced) (old : Sunk)
     → p.Reaches (p.lines []) w → p.Passes (within p text) w → IsSuch w → shows.before w ≡ []
-    → EndsRun p IsSuch shows text left left old old (Err causes.Memory)
+    → EndsRun p IsSuch shows text left left old old (Err ends.Memory)
 none_done p IsSuch shows w text left old reached passed such none = record {
   taken = record {
     earlier = [];
@@ -104,18 +124,21 @@ none_done p IsSuch shows w text left old reached passed such none = record {
 
 pub not_run : Promise → ((chances : List Chance) → IsTidy (beginning chances)) → (summary : Bool)
     (text : List ℕ) (left : Sourced) (old : Sunk)
-    → EndsAsRun summary text left left old old (Halted causes.Memory)
-not_run promise tidy summary text left old =
-    none_done one_group IsPromised (shown_by summary) (beginning []) text left old ([], refl)
-    ([], way-start (within one_group text) (beginning []))
-    (promise (beginning []) (tidy []) refl) (none summary)
+    → EndsAsRun summary text left left old old Memory
+not_run promise tidy summary text left old = (
+  Err ends.Memory,
+  none_done one_group IsPromised (shown_by summary) (beginning []) text left old ([], refl)
+      ([], way-start (within one_group text) (beginning []))
+      (promise (beginning []) (tidy []) refl) (none summary),
+  refl,
+)
   where
     none : (summary : Bool) → (shown_by summary).before (beginning []) ≡ []
     none false = refl
     none true = refl
 
 pub not_tried : Promise → ((chances : List Chance) → IsTidy (beginning chances)) → (n : ℕ) (old : Sunk)
-    → EndsTried n old old (Halted causes.Memory)
+    → EndsTried n old old Memory
 not_tried promise tidy n old =
     (Some (made n), not_run promise tidy true (made n) (sourced (Some (made n)) 0) old)
 
@@ -132,12 +155,20 @@ tried n view left old new status is says = (
 )
 
 -- a part of the text of a number was written
-pub part_made : (n : ℕ) (octets : List ℕ) (old new : Sunk) → octets ≡ made n
+pub part_made : (n : ℕ) (octets : List ℕ) (old new : Sunk) (why : Unwritten) → octets ≡ made n
     → ((m : ℕ) × (m < length octets) × (new.held ≡ after old.held (take m octets)))
-    → old.faults ≤ new.faults → BrokeOff (made n ∷ []) old new
-part_made n octets old new is part counts =
-    subst (λ (text : List ℕ). BrokeOff (text ∷ []) old new) is
-    (broke-one octets part.0 old new part.1 part.2 counts)
+    → old.faults ≤ new.faults → (why ≡ whys.Failed → Rose old.faults new.faults)
+    → EndsMade n old new (status_of_unwritten why)
+part_made n octets old new why is part counts failed = go why failed
+  where
+    broke : BrokeOff (made n ∷ []) old new
+    broke = subst (λ (text : List ℕ). BrokeOff (text ∷ []) old new) is
+        (broke-one octets part.0 old new part.1 part.2 counts)
+
+    go : (why : Unwritten) → (why ≡ whys.Failed → Rose old.faults new.faults)
+        → EndsMade n old new (status_of_unwritten why)
+    go whys.Failed failed = (failed refl, broke)
+    go whys.Memory failed = broke
 
 -- ---- without a fault
 
@@ -146,44 +177,42 @@ pub record IsStatus {Act World : Type 0} (p : Performing Act World) (text : List
     (Is : Status → Type 0) : Type 0 where
   pub at_end : length text ≤ most_input → (w : World) → p.Reaches (p.whole text) w → Is Done
   pub past_limit : most_input < length text → (w : World)
-      → p.Reaches (p.lines (whole_lines (take most_input text))) w → Is (Halted causes.Input)
+      → p.Reaches (p.lines (whole_lines (take most_input text))) w → Is Input
   pub by_stop : (w : World) (halt : Halt) → p.Stops (within p text) w halt
-      → Is (Halted (cause_of_halt halt))
+      → Is (status_of_halt halt)
 
 module _ {Act World : Type 0} (p : Performing Act World) (IsSuch : World → Type 0)
     (shows : Shows World) (text : List ℕ) (left now : Sourced) (old new : Sunk)
     (Is : Status → Type 0) (is : IsStatus p text Is) where
+  abbrev IsOrWants : Status → Type 0
+  IsOrWants status = Is status ⊎ (status ≡ Memory)
+
+  by_answer : (r : Answer) → EndsRun p IsSuch shows text left now old new r
+      → (Rose left.faults now.faults → ⊥) → (Rose old.faults new.faults → ⊥)
+      → IsOrWants (status_of_replay r)
+  by_answer (Ok done) h reads writes = let e = h.ends in inl (is.at_end e.0 e.2.0 e.2.1)
+  by_answer (Err (ends.Refused (halts.Trace line kind))) h reads writes =
+      let e = h.ends in inl (is.by_stop e.0 (halts.Trace line kind) e.1)
+  by_answer (Err (ends.Refused halts.Memory)) h reads writes = inr refl
+  by_answer (Err (ends.Refused halts.WriteFault)) h reads writes = absurd (writes h.ends.0)
+  by_answer (Err (ends.Refused (halts.Limit which))) h reads writes =
+      let e = h.ends in inl (is.by_stop e.0 (halts.Limit which) e.1)
+  by_answer (Err (ends.Refused (halts.RepeatedDraw first second))) h reads writes =
+      let e = h.ends in inl (is.by_stop e.0 (halts.RepeatedDraw first second) e.1)
+  by_answer (Err (ends.Refused (halts.Forged line))) h reads writes =
+      let e = h.ends in inl (is.by_stop e.0 (halts.Forged line) e.1)
+  by_answer (Err ends.Memory) h reads writes = inr refl
+  by_answer (Err ends.ReadFault) h reads writes = absurd (reads h.ends.0)
+  by_answer (Err ends.Limit) h reads writes =
+      let e = h.ends in inl (is.past_limit e.0 e.1.0 e.1.1)
+
   -- a run ended with such a status, or memory was wanting
   pub without_fault : (status : Status)
       → Answers (λ r. EndsRun p IsSuch shows text left now old new r) status
       → (Rose left.faults now.faults → ⊥) → (Rose old.faults new.faults → ⊥)
-      → Is status ⊎ (status ≡ Halted causes.Memory)
-  without_fault Done h reads writes = let e = h.ends in inl (is.at_end e.0 e.2.0 e.2.1)
-  without_fault Usage h reads writes = absurd h
-  without_fault CheckInput h reads writes = absurd h
-  without_fault Refuted h reads writes = absurd h
-  without_fault (Transcript line why) h reads writes = absurd h
-  without_fault CaptureInput h reads writes = absurd h
-  without_fault (Unrecorded line why) h reads writes = absurd h
-  without_fault (Capture at why) h reads writes = absurd h
-  without_fault (KeyLine line why) h reads writes = absurd h
-  without_fault Keys h reads writes = absurd h
-  without_fault CaptureRefuted h reads writes = absurd h
-  without_fault (CaptureDoubted wrong undecided) h reads writes = absurd h
-  without_fault (Packets at why) h reads writes = absurd h
-  without_fault (Halted (causes.Trace line kind)) h reads writes =
-      let e = h.ends in inl (is.by_stop e.0 (halts.Trace line kind) e.1)
-  without_fault (Halted causes.ReadFault) h reads writes = absurd (reads h.ends.0)
-  without_fault (Halted causes.WriteFault) h reads writes = absurd (writes h.ends.0)
-  without_fault (Halted causes.Memory) h reads writes = inr refl
-  without_fault (Halted causes.Input) h reads writes =
-      let e = h.ends in inl (is.past_limit e.0 e.1.0 e.1.1)
-  without_fault (Halted (causes.Limit which)) h reads writes =
-      let e = h.ends in inl (is.by_stop e.0 (halts.Limit which) e.1)
-  without_fault (Halted (causes.RepeatedDraw first second)) h reads writes =
-      let e = h.ends in inl (is.by_stop e.0 (halts.RepeatedDraw first second) e.1)
-  without_fault (Halted (causes.Forged line)) h reads writes =
-      let e = h.ends in inl (is.by_stop e.0 (halts.Forged line) e.1)
+      → Is status ⊎ (status ≡ Memory)
+  without_fault status h reads writes =
+      subst IsOrWants (sym h.2) (by_answer h.0 h.1 reads writes)
 
 at_end : (text : List ℕ) (chances : List Chance) (w : LanWorld) → length text ≤ most_input
     → course (whole text) chances ≡ Goes w → Done ≡ status_within text chances
@@ -193,7 +222,7 @@ at_end text chances w fits e =
 
 past_limit : (text : List ℕ) (chances : List Chance) (w : LanWorld) → most_input < length text
     → course (performed_all (whole_lines (take most_input text))) chances ≡ Goes w
-    → Halted causes.Input ≡ status_within text chances
+    → Input ≡ status_within text chances
 past_limit text chances w past e =
     let test : nat_le (length text) most_input ≡ false = grind (arith, nat_tests, past) in
     rw (test, e) refl
@@ -211,7 +240,7 @@ run_status text = record {
 
 -- the status is what performing the text leaves, or memory was wanting
 abbrev pub IsComplete : List ℕ → Status → Type 0
-IsComplete text status = EndsWithin text status ⊎ (status ≡ Halted causes.Memory)
+IsComplete text status = EndsWithin text status ⊎ (status ≡ Memory)
 
 pub complete : (summary : Bool) (text : List ℕ) (left now : Sourced) (old new : Sunk) (status : Status)
     → EndsAsRun summary text left now old new status → (Rose left.faults now.faults → ⊥)
@@ -231,7 +260,7 @@ complete_try n old new status ends writes =
     complete true (made n) _ _ old new status ends.1 steady writes
 
 pub complete_make : (n : ℕ) (old new : Sunk) (status : Status) → EndsMade n old new status
-    → (Rose old.faults new.faults → ⊥) → (status ≡ Done) ⊎ (status ≡ Halted causes.Memory)
+    → (Rose old.faults new.faults → ⊥) → (status ≡ Done) ⊎ (status ≡ Memory)
 complete_make n old new Done ends writes = inl refl
 complete_make n old new Usage ends writes = absurd ends
 complete_make n old new CheckInput ends writes = absurd ends
@@ -245,11 +274,11 @@ complete_make n old new Keys ends writes = absurd ends
 complete_make n old new CaptureRefuted ends writes = absurd ends
 complete_make n old new (CaptureDoubted wrong undecided) ends writes = absurd ends
 complete_make n old new (Packets at why) ends writes = absurd ends
-complete_make n old new (Halted causes.WriteFault) ends writes = absurd (writes ends.0)
-complete_make n old new (Halted causes.Memory) ends writes = inr refl
-complete_make n old new (Halted (causes.Trace line kind)) ends writes = absurd ends
-complete_make n old new (Halted causes.ReadFault) ends writes = absurd ends
-complete_make n old new (Halted causes.Input) ends writes = absurd ends
-complete_make n old new (Halted (causes.Limit which)) ends writes = absurd ends
-complete_make n old new (Halted (causes.RepeatedDraw first second)) ends writes = absurd ends
-complete_make n old new (Halted (causes.Forged line)) ends writes = absurd ends
+complete_make n old new WriteFault ends writes = absurd (writes ends.0)
+complete_make n old new Memory ends writes = inr refl
+complete_make n old new (Trace line kind) ends writes = absurd ends
+complete_make n old new ReadFault ends writes = absurd ends
+complete_make n old new Input ends writes = absurd ends
+complete_make n old new (Limit which) ends writes = absurd ends
+complete_make n old new (RepeatedDraw first second) ends writes = absurd ends
+complete_make n old new (Forged line) ends writes = absurd ends

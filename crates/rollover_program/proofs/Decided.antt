@@ -1,5 +1,5 @@
 -- What was read decides how the program ends, where nothing fails outside.
-use Rattle.std.proofs.Common.{◌≡◌, ℕ, List, Result, Ok, Err, ap, inl, inr, refl, subst, sym}
+use Rattle.std.proofs.Common.{◌≡◌, ℕ, List, Result, Ok, Err, inl, inr, refl, subst, sym}
 use Rattle.std.specs.Prelude.{◌⊎◌}
 use Rattle.text_lines.specs.Reading.{Sourced}
 use Rattle.transcript_check.specs.declared.verdict.Verdict.{Verdict}
@@ -13,12 +13,10 @@ use Rattle.capture_audit.specs.declared.asks.Asks.{Asks}
 use Rattle.capture_audit.specs.declared.end.AuditEnd.{AuditEnd}
 use Rattle.capture_audit.specs.declared.end.AuditEnd.TheVariants as ends
 use Rattle.capture_audit.specs.Views.{end_seen}
-use Rattle.replay.specs.declared.cause.Cause.{Cause}
-use Rattle.replay.specs.declared.cause.Cause.TheVariants as causes
 use Rattle.replay.specs.Sinks.{Sunk}
 use Rattle.rollover_program.specs.declared.status.Status.{Status}
 use Rattle.rollover_program.specs.declared.status.Status.TheVariants as statuses
-use Rattle.rollover_program.specs.declared.status.Status.TheVariants.{Done, Usage, Halted, CheckInput, Refuted, Transcript, CaptureInput, Unrecorded, KeyLine, Keys, CaptureRefuted, CaptureDoubted, Packets}
+use Rattle.rollover_program.specs.declared.status.Status.TheVariants.{Done, Usage, CheckInput, Refuted, Transcript, CaptureInput, Unrecorded, KeyLine, Keys, CaptureRefuted, CaptureDoubted, Packets, Trace, ReadFault, WriteFault, Memory, Input, Limit, RepeatedDraw, Forged}
 use Rattle.rollover_program.specs.Carried.{IsDecided}
 use Rattle.rollover_program.specs.commands.Check.{EndsAsCheck, Tells, status_of}
 use Rattle.rollover_program.specs.commands.Capture.{EndsAsCapture, status_of_capture}
@@ -27,27 +25,32 @@ use Rattle.rollover_program.specs.commands.Draw.{EndsAsDraw, Shows}
 use Rattle.rollover_program.specs.commands.Audit.{EndsAsAudit, EndsAsView, ShowsSeen, status_behind, status_of_audit}
 use Rattle.rollover_program.proofs.Judged.{other-status}
 
--- a cause that is outside, or want of memory
-abbrev pub IsOutside : Cause → Type 0
-IsOutside cause = (cause ≡ causes.ReadFault) ⊎ ((cause ≡ causes.WriteFault) ⊎ (cause ≡ causes.Memory))
-
--- the program is halted by such causes alone
+-- the program is halted from outside alone, or for want of memory
 abbrev pub IsHaltedOutside : Status → Type 0
 IsHaltedOutside Usage = ⊥
-IsHaltedOutside (Halted cause) = IsOutside cause
+IsHaltedOutside (Trace line kind) = ⊥
+IsHaltedOutside Input = ⊥
+IsHaltedOutside (Limit which) = ⊥
+IsHaltedOutside (RepeatedDraw first second) = ⊥
+IsHaltedOutside (Forged line) = ⊥
 IsHaltedOutside status = Unit {0}
 
 -- what was read decides, unless memory runs out
 abbrev pub EndsDecided : Status → Type 0
-EndsDecided status = IsDecided status ⊎ (status ≡ Halted causes.Memory)
+EndsDecided status = IsDecided status ⊎ (status ≡ Memory)
 
-pub decided : (status : Status) → IsHaltedOutside status → (status ≡ Halted causes.ReadFault → ⊥)
-    → (status ≡ Halted causes.WriteFault → ⊥) → EndsDecided status
+pub decided : (status : Status) → IsHaltedOutside status → (status ≡ ReadFault → ⊥)
+    → (status ≡ WriteFault → ⊥) → EndsDecided status
 decided Done outside reads writes = inl tt
 decided Usage outside reads writes = absurd outside
-decided (Halted cause) (inl read) reads writes = absurd (reads (ap Halted read))
-decided (Halted cause) (inr (inl write)) reads writes = absurd (writes (ap Halted write))
-decided (Halted cause) (inr (inr memory)) reads writes = inr (ap Halted memory)
+decided (Trace line kind) outside reads writes = absurd outside
+decided ReadFault outside reads writes = absurd (reads refl)
+decided WriteFault outside reads writes = absurd (writes refl)
+decided Memory outside reads writes = inr refl
+decided Input outside reads writes = absurd outside
+decided (Limit which) outside reads writes = absurd outside
+decided (RepeatedDraw first second) outside reads writes = absurd outside
+decided (Forged line) outside reads writes = absurd outside
 decided CheckInput outside reads writes = inl tt
 decided Refuted outside reads writes = inl tt
 decided (Transcript line why) outside reads writes = inl tt
@@ -66,19 +69,19 @@ by_verdict : (verdict : Verdict) (old new : Sunk) (status : Status) → Tells ve
     → IsHaltedOutside status
 by_verdict verdict old new Done tells = tt
 by_verdict verdict old new Usage tells = other-status verdict Usage (λ is. cc is) (λ is. cc is) tells.0
-by_verdict verdict old new (Halted (causes.Trace line kind)) tells =
-    absurd (other-status verdict (Halted (causes.Trace line kind)) (λ is. cc is) (λ is. cc is) tells.0)
-by_verdict verdict old new (Halted causes.ReadFault) tells = inl refl
-by_verdict verdict old new (Halted causes.WriteFault) tells = inr (inl refl)
-by_verdict verdict old new (Halted causes.Memory) tells = inr (inr refl)
-by_verdict verdict old new (Halted causes.Input) tells =
-    absurd (other-status verdict (Halted causes.Input) (λ is. cc is) (λ is. cc is) tells.0)
-by_verdict verdict old new (Halted (causes.Limit which)) tells =
-    absurd (other-status verdict (Halted (causes.Limit which)) (λ is. cc is) (λ is. cc is) tells.0)
-by_verdict verdict old new (Halted (causes.RepeatedDraw first second)) tells =
-    absurd (other-status verdict (Halted (causes.RepeatedDraw first second)) (λ is. cc is) (λ is. cc is) tells.0)
-by_verdict verdict old new (Halted (causes.Forged line)) tells =
-    absurd (other-status verdict (Halted (causes.Forged line)) (λ is. cc is) (λ is. cc is) tells.0)
+by_verdict verdict old new (Trace line kind) tells =
+    absurd (other-status verdict (Trace line kind) (λ is. cc is) (λ is. cc is) tells.0)
+by_verdict verdict old new ReadFault tells = tt
+by_verdict verdict old new WriteFault tells = tt
+by_verdict verdict old new Memory tells = tt
+by_verdict verdict old new Input tells =
+    absurd (other-status verdict Input (λ is. cc is) (λ is. cc is) tells.0)
+by_verdict verdict old new (Limit which) tells =
+    absurd (other-status verdict (Limit which) (λ is. cc is) (λ is. cc is) tells.0)
+by_verdict verdict old new (RepeatedDraw first second) tells =
+    absurd (other-status verdict (RepeatedDraw first second) (λ is. cc is) (λ is. cc is) tells.0)
+by_verdict verdict old new (Forged line) tells =
+    absurd (other-status verdict (Forged line) (λ is. cc is) (λ is. cc is) tells.0)
 by_verdict verdict old new CheckInput tells = tt
 by_verdict verdict old new Refuted tells = tt
 by_verdict verdict old new (Transcript line why) tells = tt
@@ -95,14 +98,14 @@ by_picture : (picture : List ℕ) (old new : Sunk) (status : Status) → Shows p
     → IsHaltedOutside status
 by_picture picture old new Done shows = tt
 by_picture picture old new Usage shows = cc shows.0
-by_picture picture old new (Halted (causes.Trace line kind)) shows = absurd (cc shows.0)
-by_picture picture old new (Halted causes.ReadFault) shows = inl refl
-by_picture picture old new (Halted causes.WriteFault) shows = inr (inl refl)
-by_picture picture old new (Halted causes.Memory) shows = inr (inr refl)
-by_picture picture old new (Halted causes.Input) shows = absurd (cc shows.0)
-by_picture picture old new (Halted (causes.Limit which)) shows = absurd (cc shows.0)
-by_picture picture old new (Halted (causes.RepeatedDraw first second)) shows = absurd (cc shows.0)
-by_picture picture old new (Halted (causes.Forged line)) shows = absurd (cc shows.0)
+by_picture picture old new (Trace line kind) shows = absurd (cc shows.0)
+by_picture picture old new ReadFault shows = tt
+by_picture picture old new WriteFault shows = tt
+by_picture picture old new Memory shows = tt
+by_picture picture old new Input shows = absurd (cc shows.0)
+by_picture picture old new (Limit which) shows = absurd (cc shows.0)
+by_picture picture old new (RepeatedDraw first second) shows = absurd (cc shows.0)
+by_picture picture old new (Forged line) shows = absurd (cc shows.0)
 by_picture picture old new CheckInput shows = tt
 by_picture picture old new Refuted shows = tt
 by_picture picture old new (Transcript line why) shows = tt
@@ -117,26 +120,26 @@ by_picture picture old new (Packets at why) shows = tt
 
 by_unfinished : (why : Unfinished CheckFault) → IsHaltedOutside (status_of why)
 by_unfinished (unfinished.Refused line fault) = tt
-by_unfinished unfinished.Memory = inr (inr refl)
-by_unfinished unfinished.ReadFault = inl refl
-by_unfinished unfinished.WriteFault = inr (inl refl)
+by_unfinished unfinished.Memory = tt
+by_unfinished unfinished.ReadFault = tt
+by_unfinished unfinished.WriteFault = tt
 by_unfinished unfinished.Limit = tt
 
 by_capture : (r : Result (Unit {0}) (Unfinished LineFault)) → IsHaltedOutside (status_of_capture r)
 by_capture (Ok done) = tt
 by_capture (Err (unfinished.Refused line why)) = tt
 by_capture (Err unfinished.Limit) = tt
-by_capture (Err unfinished.ReadFault) = inl refl
-by_capture (Err unfinished.WriteFault) = inr (inl refl)
-by_capture (Err unfinished.Memory) = inr (inr refl)
+by_capture (Err unfinished.ReadFault) = tt
+by_capture (Err unfinished.WriteFault) = tt
+by_capture (Err unfinished.Memory) = tt
 
 by_telling : (r : Result (Unit {0}) (Unfinished CaptureFault)) → IsHaltedOutside (status_of_telling r)
 by_telling (Ok done) = tt
 by_telling (Err (unfinished.Refused at why)) = tt
 by_telling (Err unfinished.Limit) = tt
-by_telling (Err unfinished.ReadFault) = inl refl
-by_telling (Err unfinished.WriteFault) = inr (inl refl)
-by_telling (Err unfinished.Memory) = inr (inr refl)
+by_telling (Err unfinished.ReadFault) = tt
+by_telling (Err unfinished.WriteFault) = tt
+by_telling (Err unfinished.Memory) = tt
 
 by_audit : (r : Result (Unit {0}) AuditEnd) → IsHaltedOutside (status_of_audit r)
 by_audit (Ok done) = tt
@@ -146,16 +149,16 @@ by_audit (Err (ends.Doubted wrong undecided)) = tt
 by_audit (Err (ends.Refused at why)) = tt
 by_audit (Err ends.InputLimit) = tt
 by_audit (Err ends.KeyLimit) = tt
-by_audit (Err ends.ReadFault) = inl refl
-by_audit (Err ends.WriteFault) = inr (inl refl)
-by_audit (Err ends.Memory) = inr (inr refl)
+by_audit (Err ends.ReadFault) = tt
+by_audit (Err ends.WriteFault) = tt
+by_audit (Err ends.Memory) = tt
 
 -- how a picture of it was shown
 by_behind : (picture : List ℕ) (old new : Sunk) (shown : Status) (end : Result (Unit {0}) AuditEnd)
     → Shows picture old new shown → IsHaltedOutside (status_behind shown end)
 by_behind picture old new Done end shows = by_audit end
-by_behind picture old new (Halted causes.WriteFault) end shows = inr (inl refl)
-by_behind picture old new (Halted causes.Memory) end shows = inr (inr refl)
+by_behind picture old new WriteFault end shows = tt
+by_behind picture old new Memory end shows = tt
 by_behind picture old new _ end shows = absurd (cc shows.0)
 
 by_view : (asks : Asks) (seen : Result AuditView AuditEnd) (old new : Sunk) (status : Status)
@@ -163,7 +166,7 @@ by_view : (asks : Asks) (seen : Result AuditView AuditEnd) (old new : Sunk) (sta
 by_view asks (Err end) old new status it = subst IsHaltedOutside (sym it.0) (by_audit (Err end))
 by_view asks (Ok view) old new status (inl it) =
     subst IsHaltedOutside (sym it.3) (by_behind it.0 old new it.1 (end_seen asks.strict (Ok view)) it.2)
-by_view asks (Ok view) old new status (inr it) = subst IsHaltedOutside (sym it.0) (inr (inr refl))
+by_view asks (Ok view) old new status (inr it) = subst IsHaltedOutside (sym it.0) tt
 
 -- ---- by the command
 

@@ -1,21 +1,25 @@
 -- How the program ends after a transcript was drawn.
-use Rattle.std.proofs.Common.{◌≡◌, ℕ, List, Ok, Err, inr, refl, subst}
+use Rattle.std.proofs.Common.{◌≡◌, ◌<◌, ◌≤◌, ℕ, List, [], ◌∷◌, length, take, Ok, Err, inr, refl, subst}
+use Rattle.lan_base.specs.declared.sink.Unwritten.{Unwritten}
+use Rattle.lan_base.specs.declared.sink.Unwritten.TheVariants as whys
 use Rattle.lan_base.specs.Faults.{Rose}
+use Rattle.lan_base.specs.Told.{after}
 use Rattle.text_lines.specs.Reading.{Sourced}
 use Rattle.transcript_check.specs.declared.fault.CheckFault.{CheckFault}
 use Rattle.text_lines.specs.declared.unfinished.Unfinished.{Unfinished}
 use Rattle.text_lines.specs.declared.unfinished.Unfinished.TheVariants as ends
 use Rattle.transcript_picture.specs.Transcripts.{EndsDrawing}
 use Rattle.transcript_picture.proofs.Public.{not-drawn}
-use Rattle.replay.specs.declared.cause.Cause.TheVariants as causes
-use Rattle.replay.specs.Sinks.{Sunk}
+use Rattle.replay.specs.Sinks.{Sunk, BrokeOff}
+use Rattle.replay.proofs.Public.{broke-one}
 use Rattle.rollover_program.specs.declared.status.Status.{Status}
-use Rattle.rollover_program.specs.declared.status.Status.TheVariants.{Usage, Halted}
+use Rattle.rollover_program.specs.declared.status.Status.TheVariants.{Usage, ReadFault, WriteFault, Memory}
 use Rattle.rollover_program.specs.commands.Draw.{EndsAsDraw, Shows}
+use Rattle.rollover_program.specs.inside.Answering.{status_of_unwritten}
 
 -- nothing was done, for want of memory
 pub not_drawn : (text : List ℕ) (left : Sourced) (old : Sunk)
-    → EndsAsDraw text left left old old (Halted causes.Memory)
+    → EndsAsDraw text left left old old Memory
 not_drawn text left old = inr (ends.Memory, not-drawn text left, refl, refl)
 
 -- what the call answers is its octets or why it answers none
@@ -36,17 +40,32 @@ as-refused {X} {Y} text left now why d = go why d
 
 -- ---- a picture
 
+-- a part of it was written
+pub shows_part : (picture : List ℕ) (old new : Sunk) (why : Unwritten)
+    → ((n : ℕ) × (n < length picture) × (new.held ≡ after old.held (take n picture)))
+    → old.faults ≤ new.faults → (why ≡ whys.Failed → Rose old.faults new.faults)
+    → Shows picture old new (status_of_unwritten why)
+shows_part picture old new why part counts failed = go why failed
+  where
+    broke : BrokeOff (picture ∷ []) old new
+    broke = broke-one picture part.0 old new part.1 part.2 counts
+
+    go : (why : Unwritten) → (why ≡ whys.Failed → Rose old.faults new.faults)
+        → Shows picture old new (status_of_unwritten why)
+    go whys.Failed failed = (failed refl, broke)
+    go whys.Memory failed = broke
+
 pub shows_usage : (picture : List ℕ) (old new : Sunk) (status : Status)
     → Shows picture old new status → status ≡ Usage → ⊥
 shows_usage picture old new status shows e =
     let usage = subst (λ (s : Status). Shows picture old new s) e shows in cc usage.0
 
 pub shows_read_fault : (picture : List ℕ) (old new : Sunk) (status : Status)
-    → Shows picture old new status → status ≡ Halted causes.ReadFault → ⊥
+    → Shows picture old new status → status ≡ ReadFault → ⊥
 shows_read_fault picture old new status shows e =
     let fault = subst (λ (s : Status). Shows picture old new s) e shows in cc fault.0
 
 pub shows_write_fault : (picture : List ℕ) (old new : Sunk) (status : Status)
-    → Shows picture old new status → status ≡ Halted causes.WriteFault → Rose old.faults new.faults
+    → Shows picture old new status → status ≡ WriteFault → Rose old.faults new.faults
 shows_write_fault picture old new status shows e =
     let fault = subst (λ (s : Status). Shows picture old new s) e shows in fault.0

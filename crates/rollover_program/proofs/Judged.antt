@@ -1,5 +1,7 @@
 -- How the program ends after a transcript was judged.
 use Rattle.std.proofs.Common.{◌≡◌, ◌∙◌, ◌<◌, ◌≤◌, ℕ, Bool, true, false, cond, List, [], ◌∷◌, length, take, inr, refl, sym, ap, subst}
+use Rattle.lan_base.specs.declared.sink.Unwritten.{Unwritten}
+use Rattle.lan_base.specs.declared.sink.Unwritten.TheVariants as whys
 use Rattle.lan_base.specs.Faults.{Rose}
 use Rattle.lan_base.specs.Told.{after}
 use Rattle.text_lines.specs.Reading.{Sourced}
@@ -9,16 +11,16 @@ use Rattle.text_lines.specs.declared.unfinished.Unfinished.{Unfinished}
 use Rattle.text_lines.specs.declared.unfinished.Unfinished.TheVariants as ends
 use Rattle.transcript_check.specs.Verdicts.{is_clean, text_of}
 use Rattle.transcript_check.proofs.Public.{not-judged}
-use Rattle.replay.specs.declared.cause.Cause.TheVariants as causes
 use Rattle.replay.specs.Sinks.{Sunk, Wrote, BrokeOff}
 use Rattle.replay.proofs.Public.{wrote-one, broke-one}
 use Rattle.rollover_program.specs.declared.status.Status.{Status}
-use Rattle.rollover_program.specs.declared.status.Status.TheVariants.{Done, Usage, Halted, Refuted}
+use Rattle.rollover_program.specs.declared.status.Status.TheVariants.{Done, Usage, Refuted, ReadFault, WriteFault, Memory}
 use Rattle.rollover_program.specs.commands.Check.{EndsAsCheck, Tells, status_of, told}
+use Rattle.rollover_program.specs.inside.Answering.{status_of_unwritten}
 
 -- nothing was done, for want of memory
 pub not_checked : (text : List ℕ) (left : Sourced) (old : Sunk)
-    → EndsAsCheck text left left old old (Halted causes.Memory)
+    → EndsAsCheck text left left old old Memory
 not_checked text left old = inr (ends.Memory, not-judged text left, refl, refl)
 
 -- ---- a verdict
@@ -52,23 +54,32 @@ tells_usage verdict old new status tells e =
     other-status verdict Usage (λ is. cc is) (λ is. cc is) usage.0
 
 pub tells_read_fault : (verdict : Verdict) (old new : Sunk) (status : Status)
-    → Tells verdict old new status → status ≡ Halted causes.ReadFault → ⊥
+    → Tells verdict old new status → status ≡ ReadFault → ⊥
 tells_read_fault verdict old new status tells e =
     let fault = subst (λ (s : Status). Tells verdict old new s) e tells in
-    other-status verdict (Halted causes.ReadFault) (λ is. cc is) (λ is. cc is) fault.0
+    other-status verdict ReadFault (λ is. cc is) (λ is. cc is) fault.0
 
 pub tells_write_fault : (verdict : Verdict) (old new : Sunk) (status : Status)
-    → Tells verdict old new status → status ≡ Halted causes.WriteFault → Rose old.faults new.faults
+    → Tells verdict old new status → status ≡ WriteFault → Rose old.faults new.faults
 tells_write_fault verdict old new status tells e =
     let fault = subst (λ (s : Status). Tells verdict old new s) e tells in fault.0
 
 -- a part of the text of a verdict was written
-pub part_told : (verdict : Verdict) (octets : List ℕ) (old new : Sunk) → octets ≡ text_of verdict
+pub part_told : (verdict : Verdict) (octets : List ℕ) (old new : Sunk) (why : Unwritten)
+    → octets ≡ text_of verdict
     → ((m : ℕ) × (m < length octets) × (new.held ≡ after old.held (take m octets)))
-    → old.faults ≤ new.faults → BrokeOff (text_of verdict ∷ []) old new
-part_told verdict octets old new is part counts =
-    subst (λ (text : List ℕ). BrokeOff (text ∷ []) old new) is
-    (broke-one octets part.0 old new part.1 part.2 counts)
+    → old.faults ≤ new.faults → (why ≡ whys.Failed → Rose old.faults new.faults)
+    → Tells verdict old new (status_of_unwritten why)
+part_told verdict octets old new why is part counts failed = go why failed
+  where
+    broke : BrokeOff (text_of verdict ∷ []) old new
+    broke = subst (λ (text : List ℕ). BrokeOff (text ∷ []) old new) is
+        (broke-one octets part.0 old new part.1 part.2 counts)
+
+    go : (why : Unwritten) → (why ≡ whys.Failed → Rose old.faults new.faults)
+        → Tells verdict old new (status_of_unwritten why)
+    go whys.Failed failed = (failed refl, broke)
+    go whys.Memory failed = broke
 
 -- all of it was
 pub all_told : (verdict : Verdict) (octets : List ℕ) (old new : Sunk) (status : Status)
@@ -87,14 +98,14 @@ never_usage ends.ReadFault e = cc e
 never_usage ends.WriteFault e = cc e
 never_usage ends.Limit e = cc e
 
-pub read_faulted : (why : Unfinished CheckFault) → status_of why ≡ Halted causes.ReadFault → why ≡ ends.ReadFault
+pub read_faulted : (why : Unfinished CheckFault) → status_of why ≡ ReadFault → why ≡ ends.ReadFault
 read_faulted (ends.Refused line fault) e = absurd (cc e)
 read_faulted ends.Memory e = absurd (cc e)
 read_faulted ends.ReadFault e = refl
 read_faulted ends.WriteFault e = absurd (cc e)
 read_faulted ends.Limit e = absurd (cc e)
 
-pub write_faulted : (why : Unfinished CheckFault) → status_of why ≡ Halted causes.WriteFault → why ≡ ends.WriteFault
+pub write_faulted : (why : Unfinished CheckFault) → status_of why ≡ WriteFault → why ≡ ends.WriteFault
 write_faulted (ends.Refused line fault) e = absurd (cc e)
 write_faulted ends.Memory e = absurd (cc e)
 write_faulted ends.ReadFault e = absurd (cc e)

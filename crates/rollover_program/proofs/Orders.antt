@@ -11,11 +11,10 @@ use Rattle.lan_schedule.specs.Sound.{IsTidy}
 use Rattle.twin_schedule.specs.World.{beginning as twin_beginning}
 use Rattle.twin_schedule.specs.Sound.{IsTidy as IsTidyTwin}
 use Rattle.capture_audit.specs.declared.asks.Asks.{Asks}
-use Rattle.replay.specs.declared.cause.Cause.TheVariants as causes
 use Rattle.replay.specs.Sinks.{Sunk}
 use Rattle.replay.proofs.Public.{broke-none}
 use Rattle.rollover_program.specs.declared.status.Status.{Status}
-use Rattle.rollover_program.specs.declared.status.Status.TheVariants.{Halted}
+use Rattle.rollover_program.specs.declared.status.Status.TheVariants.{ReadFault, WriteFault, Memory}
 use Rattle.rollover_program.specs.declared.words.Order.{Order}
 use Rattle.rollover_program.specs.declared.words.Order.TheVariants.{Run, Make, Try, Check, Capture, Dissect, Roll, Draw, Audit}
 use Rattle.rollover_program.specs.Words.{Orders}
@@ -45,7 +44,7 @@ either_order words a n x (inr y) = inr (one_order words a (Try n) x y)
 -- nothing was done, for want of memory
 pub nothing_done : Promise → ((chances : List Chance) → IsTidy (beginning chances)) → TwinPromise
     → IsTidyTwin twin_beginning → (left : Sourced) (old : Sunk) (order : Order)
-    → CarriesOut order left left old old (Halted causes.Memory)
+    → CarriesOut order left left old old Memory
 nothing_done promise tidy both calm left old (Run summary) =
     λ text told. not_run promise tidy summary text left old
 nothing_done promise tidy both calm left old (Make n) = broke-none (made n) old
@@ -63,8 +62,8 @@ nothing_done promise tidy both calm left old (Audit asks true) =
 -- ---- where nothing failed outside
 
 module _ (left now : Sourced) (old new : Sunk) (status : Status)
-    (reads : status ≡ Halted causes.ReadFault → Rose left.faults now.faults)
-    (writes : status ≡ Halted causes.WriteFault → Rose old.faults new.faults) where
+    (reads : status ≡ ReadFault → Rose left.faults now.faults)
+    (writes : status ≡ WriteFault → Rose old.faults new.faults) where
   undisturbed : IsHaltedOutside status → (Rose left.faults now.faults → ⊥) → (Rose old.faults new.faults → ⊥)
       → EndsDecided status
   undisturbed outside read write = decided status outside (λ e. read (reads e)) (λ e. write (writes e))
@@ -73,7 +72,7 @@ module _ (left now : Sourced) (old new : Sunk) (status : Status)
   judged_whole : (asks : Asks) (text : List ℕ)
       → IsCompleteAudit asks text left.faults now.faults old.faults new.faults status
       → (Rose left.faults now.faults → ⊥) → (Rose old.faults new.faults → ⊥) → EndsDecided status
-      → (IsDecided status × IsJudgedWhole asks text status) ⊎ (status ≡ Halted causes.Memory)
+      → (IsDecided status × IsJudgedWhole asks text status) ⊎ (status ≡ Memory)
   judged_whole asks text audit read write (inr memory) = inr memory
   judged_whole asks text audit read write (inl is) =
       inl (
@@ -92,7 +91,7 @@ module _ (left now : Sourced) (old new : Sunk) (status : Status)
       complete summary text left now old new status (out text on.0) on.1 write
   completes (Make n) out audited text on write = complete_make n old new status out write
   completes (Try n) out audited text on write =
-      subst (λ (t : List ℕ). EndsWithin t status ⊎ (status ≡ Halted causes.Memory)) (sym on)
+      subst (λ (t : List ℕ). EndsWithin t status ⊎ (status ≡ Memory)) (sym on)
       (complete_try n old new status out write)
   completes Check out audited text on write =
       undisturbed (ends.checked left now old new status text (out text on.0)) on.1 write

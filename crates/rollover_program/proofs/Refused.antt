@@ -2,10 +2,8 @@
 use Rattle.std.proofs.Common.{◌≡◌, inl, inr, refl}
 use Rattle.std.specs.Prelude.{◌⊎◌, List}
 use Rattle.clap.specs.Words.{Text}
-use Rattle.replay.specs.declared.cause.Cause.{Cause}
-use Rattle.replay.specs.declared.cause.Cause.TheVariants as causes
 use Rattle.rollover_program.specs.declared.status.Status.{Status}
-use Rattle.rollover_program.specs.declared.status.Status.TheVariants.{Usage, Halted}
+use Rattle.rollover_program.specs.declared.status.Status.TheVariants.{Usage, Memory}
 use Rattle.rollover_program.specs.declared.words.Order.{Order}
 use Rattle.rollover_program.specs.declared.words.Refusal.{Refusal}
 use Rattle.rollover_program.specs.declared.words.Refusal.TheVariants as refusals
@@ -20,7 +18,7 @@ plain_orders words order numbered is = rw is (plain_words order numbered)
 
 -- two statuses
 pub either : (f : Refusal) (s : Status) → s ≡ status_of_refusal f → (s ≡ Usage)
-    ⊎ (s ≡ Halted causes.Memory)
+    ⊎ (s ≡ Memory)
 either refusals.Usage s e = inl e
 either refusals.Memory s e = inr e
 
@@ -28,15 +26,13 @@ pub usage_only : (f : Refusal) → status_of_refusal f ≡ Usage → f ≡ refus
 usage_only refusals.Usage e = refl
 usage_only refusals.Memory e = absurd cc
 
-pub not_halted : (f : Refusal) (cause : Cause) (P : Type 0) → (causes.Memory ≡ cause → ⊥)
-    → status_of_refusal f ≡ Halted cause → P
-not_halted refusals.Usage cause P other e = absurd cc
-not_halted refusals.Memory cause P other e =
-    let same : causes.Memory ≡ cause = cc in
-    absurd (other same)
+pub neither : (f : Refusal) (s : Status) (P : Type 0) → (Usage ≡ s → ⊥) → (Memory ≡ s → ⊥)
+    → status_of_refusal f ≡ s → P
+neither refusals.Usage s P usage memory e = absurd (usage e)
+neither refusals.Memory s P usage memory e = absurd (memory e)
 
 -- words that are a command order nothing for want of memory alone
 pub memory : (words : List Text) (f : Refusal) → (f ≡ refusals.Usage → IsUsage words) → (s : Status) (order : Order)
-    → s ≡ status_of_refusal f → Orders words order → s ≡ Halted causes.Memory
+    → s ≡ status_of_refusal f → Orders words order → s ≡ Memory
 memory words refusals.Usage usage s order e asked = absurd (usage refl asked.0)
 memory words refusals.Memory usage s order e asked = e

@@ -3,10 +3,9 @@ use Rattle.std.specs.Prelude.{⊤, ◌≡◌, ◌⊎◌, true, false, List, ℕ,
 use Rattle.lan_base.specs.Faults.{Rose}
 use Rattle.text_lines.specs.Reading.{Sourced}
 use Rattle.trace_maker.specs.Made.{made}
-use Rattle.replay.specs.declared.cause.Cause.TheVariants as causes
 use Rattle.replay.specs.Sinks.{Sunk}
 use Rattle.rollover_program.specs.declared.status.Status.{Status}
-use Rattle.rollover_program.specs.declared.status.Status.TheVariants.{Done, Usage, Halted}
+use Rattle.rollover_program.specs.declared.status.Status.TheVariants.{Done, Usage, Trace, ReadFault, WriteFault, Memory, Input, Limit, RepeatedDraw, Forged}
 use Rattle.rollover_program.specs.declared.words.Order.{Order}
 use Rattle.rollover_program.specs.declared.words.Order.TheVariants.{Run, Make, Try, Check, Capture, Dissect, Roll, Draw, Audit}
 use Rattle.rollover_program.specs.commands.Run.{EndsAsRun, EndsWithin}
@@ -59,10 +58,17 @@ CarriesOut (Audit asks true) left now old new status = (text : List ℕ) → lef
 
 -- ---- where nothing fails outside
 
--- all was done, or what was read is refuted, doubted, refused or past a limit
+-- all was done, or what was read, which is no trace, is refuted, doubted, refused or past a limit
 abbrev pub IsDecided : Status → Type 0
 IsDecided Usage = ⊥
-IsDecided (Halted cause) = ⊥
+IsDecided ReadFault = ⊥
+IsDecided WriteFault = ⊥
+IsDecided Memory = ⊥
+IsDecided (Trace line kind) = ⊥
+IsDecided Input = ⊥
+IsDecided (Limit which) = ⊥
+IsDecided (RepeatedDraw first second) = ⊥
+IsDecided (Forged line) = ⊥
 IsDecided status = ⊤
 
 -- How an order ends that works on this text, and that nothing outside disturbs. Where that is decided by
@@ -97,4 +103,4 @@ WorksOn order left now text = (left.left ≡ Some text) × (Rose left.faults now
 abbrev pub Completes : Order → Sourced → Sourced → Sunk → Sunk → Status → Type 0
 Completes order left now old new status = (text : List ℕ) → WorksOn order left now text
     → (Rose old.faults new.faults → ⊥)
-    → EndsUndisturbed order text status ⊎ (status ≡ Halted causes.Memory)
+    → EndsUndisturbed order text status ⊎ (status ≡ Memory)

@@ -18,7 +18,7 @@ pub use laws::{
     law_each_text_is_promised, law_tidy_runs_are_promised,
     law_tidy_worlds_of_two_groups_are_promised,
 };
-pub use replay::{AnyGate, Cause};
+pub use replay::AnyGate;
 pub use status::Status;
 pub use top::rollover;
 pub use trace_acts::Kind;

@@ -3,18 +3,21 @@
 ghost use Rattle.std.specs.Prelude.{◌≡◌, ℕ};
 ghost use Rattle.lan_core.specs.declared.stop.Which.{Which};
 ghost use Rattle.trace_acts.specs.declared.halt.Kind.{Kind};
-ghost use Rattle.replay.specs.declared.cause.Cause.TheVariants as causes;
 ghost use Rattle.transcript_check.specs.declared.fault.CheckFault.{CheckFault};
 ghost use Rattle.transcript_capture.specs.declared.fault.LineFault.{LineFault};
 ghost use Rattle.capture_file.specs.declared.fault.CaptureFault.{CaptureFault};
 ghost use Rattle.capture_packets.specs.declared.fault.CaptureFault.{CaptureFault as PacketFault};
 ghost use Rattle.trace_text.specs.declared.fault.TextFault.{TextFault};
-ghost use Rattle.rollover_program.specs.inside.Answering.{status_of};
+ghost use Rattle.rollover_program.specs.inside.Answering.{status_of_unwritten};
+ghost use Rattle.rollover_program.specs.commands.Run.{status_of_halt, status_of_replay};
 
 use capture_file::CaptureFault;
 use capture_packets::CaptureFault as PacketFault;
-use replay::Cause;
+use lan_base::Unwritten;
+use lan_core::Which;
+use text_lines::End;
 use thiserror::Error;
+use trace_acts::{Halt, Kind};
 use trace_text::TextFault;
 use transcript_capture::LineFault;
 use transcript_check::CheckFault;
@@ -29,9 +32,29 @@ pub enum Status {
     /// The words are no command.
     #[error("usage: rollover run [--summary] | make N | try N | check | capture | dissect | roll | draw | audit [--packets] [--strict] [--draw] [KEYS]")]
     Usage,
-    /// The trace was not performed to its end.
-    #[error("{0}")]
-    Halted(Cause),
+    /// The line of a trace with this number, from 1, is refused.
+    #[error("line {line}: {kind}")]
+    Trace { line: u32, kind: Kind },
+    /// The source failed.
+    #[error("read fault")]
+    ReadFault,
+    /// The sink failed.
+    #[error("write fault")]
+    WriteFault,
+    #[error("out of memory")]
+    Memory,
+    /// A trace has more octets than its limit.
+    #[error("limit Input")]
+    Input,
+    /// An event of a trace would pass a limit of the group.
+    #[error("limit {0:?}")]
+    Limit(Which),
+    /// Two member identifiers that are drawn are equal, or two SAKs. Draws have numbers from 1.
+    #[error("draws {first} and {second} repeat")]
+    RepeatedDraw { first: u64, second: u64 },
+    /// The line of a trace with this number injects a right frame that repeats none on the air.
+    #[error("line {line}: forged")]
+    Forged { line: u32 },
     /// The input of `check` or `draw` has more octets than its limit.
     #[error("limit CheckInput")]
     CheckInput,
@@ -74,15 +97,15 @@ impl Status {
         ensures done { self ≡ Status.Done → result ≡ 0 }
         ensures usage { self ≡ Status.Usage → result ≡ 1 }
         ensures trace { (line : ℕ) (kind : Kind)
-            → self ≡ Status.Halted (causes.Trace line kind) → result ≡ 2 }
-        ensures read_fault { self ≡ Status.Halted causes.ReadFault → result ≡ 3 }
-        ensures write_fault { self ≡ Status.Halted causes.WriteFault → result ≡ 4 }
-        ensures memory { self ≡ Status.Halted causes.Memory → result ≡ 5 }
-        ensures input { self ≡ Status.Halted causes.Input → result ≡ 6 }
-        ensures limit { (which : Which) → self ≡ Status.Halted (causes.Limit which) → result ≡ 6 }
+            → self ≡ Status.Trace line kind → result ≡ 2 }
+        ensures read_fault { self ≡ Status.ReadFault → result ≡ 3 }
+        ensures write_fault { self ≡ Status.WriteFault → result ≡ 4 }
+        ensures memory { self ≡ Status.Memory → result ≡ 5 }
+        ensures input { self ≡ Status.Input → result ≡ 6 }
+        ensures limit { (which : Which) → self ≡ Status.Limit which → result ≡ 6 }
         ensures repeated_draw { (first second : ℕ)
-            → self ≡ Status.Halted (causes.RepeatedDraw first second) → result ≡ 7 }
-        ensures forged { (line : ℕ) → self ≡ Status.Halted (causes.Forged line) → result ≡ 8 }
+            → self ≡ Status.RepeatedDraw first second → result ≡ 7 }
+        ensures forged { (line : ℕ) → self ≡ Status.Forged line → result ≡ 8 }
         ensures check_input { self ≡ Status.CheckInput → result ≡ 6 }
         ensures refuted { self ≡ Status.Refuted → result ≡ 9 }
         ensures transcript { (line : ℕ) (why : CheckFault)
@@ -104,13 +127,13 @@ impl Status {
         match self {
             Status::Done => 0,
             Status::Usage => 1,
-            Status::Halted(Cause::Trace { .. }) => 2,
-            Status::Halted(Cause::ReadFault) => 3,
-            Status::Halted(Cause::WriteFault) => 4,
-            Status::Halted(Cause::Memory) => 5,
-            Status::Halted(Cause::Input | Cause::Limit(_)) => 6,
-            Status::Halted(Cause::RepeatedDraw { .. }) => 7,
-            Status::Halted(Cause::Forged { .. }) => 8,
+            Status::Trace { .. } => 2,
+            Status::ReadFault => 3,
+            Status::WriteFault => 4,
+            Status::Memory => 5,
+            Status::Input | Status::Limit(_) => 6,
+            Status::RepeatedDraw { .. } => 7,
+            Status::Forged { .. } => 8,
             Status::CheckInput => 6,
             Status::Refuted => 9,
             Status::Transcript { .. } | Status::Unrecorded { .. } => 10,
@@ -125,11 +148,38 @@ impl Status {
 }
 
 /// The status of a replay's answer.
-pub fn status_of(answer: Result<(), Cause>) -> Status
-    ensures { result ≡ status_of answer }
+pub fn status_of_replay(answer: Result<(), End<Halt>>) -> Status
+    ensures { result ≡ status_of_replay answer }
 {
     match answer {
         Ok(()) => Status::Done,
-        Err(cause) => Status::Halted(cause),
+        Err(End::Refused(halt)) => status_of_halt(halt),
+        Err(End::Memory) => Status::Memory,
+        Err(End::ReadFault) => Status::ReadFault,
+        Err(End::Limit) => Status::Input,
+    }
+}
+
+/// The status of why performing a trace halted.
+fn status_of_halt(halt: Halt) -> Status
+    ensures { result ≡ status_of_halt halt }
+{
+    match halt {
+        Halt::Trace { line, kind } => Status::Trace { line, kind },
+        Halt::Memory => Status::Memory,
+        Halt::WriteFault => Status::WriteFault,
+        Halt::Limit(which) => Status::Limit(which),
+        Halt::RepeatedDraw { first, second } => Status::RepeatedDraw { first, second },
+        Halt::Forged { line } => Status::Forged { line },
+    }
+}
+
+/// The status where a text was not written.
+pub fn status_of_unwritten(why: Unwritten) -> Status
+    ensures { result ≡ status_of_unwritten why }
+{
+    match why {
+        Unwritten::Failed => Status::WriteFault,
+        Unwritten::Memory => Status::Memory,
     }
 }

@@ -3,7 +3,6 @@
 ghost use Rattle.std.specs.Prelude.{◌≡◌, ◌≢◌, ◌⊎◌, List, ℕ, Bool, Some, map, string_bytes};
 ghost use Rattle.lan_base.specs.Faults.{Rose};
 ghost use Rattle.text_lines.specs.Reading.{sourced};
-ghost use Rattle.replay.specs.declared.cause.Cause.TheVariants as causes;
 ghost use Rattle.replay.specs.Sinks.{sunk};
 ghost use Rattle.capture_audit.specs.declared.asks.Asks.{Asks};
 ghost use Rattle.rollover_program.specs.declared.words.Order.{Order};
@@ -27,7 +26,7 @@ use crate::status::Status;
 use crate::words::{Order, Refusal, read_order};
 use lan_base::{Sink, Source};
 use lan_schedule::law_lines_leave_a_tidy_world;
-use replay::{AnyGate, Cause};
+use replay::AnyGate;
 use std::alloc::Global;
 use std::thread::Threads;
 use twin_schedule::law_groups_of_tidy_worlds_are_sound;
@@ -63,7 +62,7 @@ pub fn rollover<T: Threads + Sync, S: Source, K: Sink>(
     // where one is asked for; the plain words for an order do.
     ensures usage { result ≡ Status.Usage → IsUsage (map string_bytes words.now) }
     ensures refused { IsUsage (map string_bytes words.now)
-        → (result ≡ Status.Usage) ⊎ (result ≡ Status.Halted causes.Memory) }
+        → (result ≡ Status.Usage) ⊎ (result ≡ Status.Memory) }
     ensures untouched { result ≡ Status.Usage
         → (source.new ≡ source.old) × (sink.new ≡ sink.old) }
     ensures ordered { (IsUsage (map string_bytes words.now) → ⊥)
@@ -82,14 +81,14 @@ pub fn rollover<T: Threads + Sync, S: Source, K: Sink>(
         ⊎ Orders (map string_bytes words.now) (orders.Try n) → source.new ≡ source.old }
 
     // Faults are those of the outside, whatever it tells.
-    ensures read_cause { result ≡ Status.Halted causes.ReadFault
+    ensures read_cause { result ≡ Status.ReadFault
         → Rose (S.faults source.old) (S.faults source.new) }
-    ensures write_cause { result ≡ Status.Halted causes.WriteFault
+    ensures write_cause { result ≡ Status.WriteFault
         → Rose (K.faults sink.old) (K.faults sink.new) }
 
     // `roll` finds no frame forged, since no line of a trace of two groups injects one.
     ensures unforged { (line : ℕ) → Orders (map string_bytes words.now) orders.Roll
-        → result ≢ Status.Halted (causes.Forged line) }
+        → result ≢ Status.Forged line }
 
     // Without a fault each order ends as its row says, unless memory runs out.
     ensures complete { (order : Order) → Orders (map string_bytes words.now) order → Completes order
@@ -128,12 +127,12 @@ fn carry_out<T: Threads + Sync, S: Source, K: Sink>(
     ensures carried { result ≢ Status.Usage }
     ensures unread { (n : ℕ) → (order ≡ orders.Make n) ⊎ (order ≡ orders.Try n)
         → source.new ≡ source.old }
-    ensures read_cause { result ≡ Status.Halted causes.ReadFault
+    ensures read_cause { result ≡ Status.ReadFault
         → Rose (S.faults source.old) (S.faults source.new) }
-    ensures write_cause { result ≡ Status.Halted causes.WriteFault
+    ensures write_cause { result ≡ Status.WriteFault
         → Rose (K.faults sink.old) (K.faults sink.new) }
     ensures unforged { (line : ℕ) → order ≡ orders.Roll
-        → result ≢ Status.Halted (causes.Forged line) }
+        → result ≢ Status.Forged line }
 {
     match order {
         Order::Run { summary } => run(rt, alloc, summary, source, sink, gate),
@@ -155,6 +154,6 @@ fn status_of_refusal(refusal: Refusal) -> Status
 {
     match refusal {
         Refusal::Usage => Status::Usage,
-        Refusal::Memory => Status::Halted(Cause::Memory),
+        Refusal::Memory => Status::Memory,
     }
 }

@@ -12,9 +12,8 @@ use Rattle.trace_acts.specs.declared.halt.Halt.TheVariants as halts
 use Rattle.lan_base.specs.declared.sink.Unwritten.{Unwritten}
 use Rattle.lan_base.specs.declared.sink.Unwritten.TheVariants as whys
 use Rattle.trace_acts.specs.Halts.{halt_of_unwritten}
-use Rattle.replay.specs.declared.cause.Cause.TheVariants as causes
 use Rattle.replay.specs.Sinks.{Sunk, Wrote, BrokeOff, WroteSome, Fails}
-use Rattle.replay.specs.Causes.{cause_of, ended}
+use Rattle.replay.specs.inside.Ended.{ended}
 use Rattle.replay.specs.Runs.{most_input, WasPerformed, WasHalted, WasCut, IsReplayed}
 use Rattle.replay.proofs.Ending.{Spares, spared, fails-rose, Plays, replayed-err, transcribed}
 use Rattle.replay.proofs.Written.{rose-earlier, wrote-counts, fails-broke}
@@ -249,25 +248,19 @@ module _ {P K : Type 0} (given : Given) (of : LinesMoment P K → TwinReplay) (s
         ]
       ]
 
-  none-forged : (left now : Sourced) (old new : LinesMoment P K) (end : End Halt) (line : ℕ)
-      → IsFresh old → Takes (DidLines Took Broke of) most_input left now old new (Err end)
-      → cause_of end ≡ causes.Forged line → ⊥
-  none-forged left now old new (ends.Refused (halts.Forged other)) line fresh h is =
-      let p = h.taken.ends beginning (begins old fresh) in
-      forged-never (performed_all h.last) h.between new other p.0 p.2 h.ends.1
-  none-forged left now old new (ends.Refused halts.WriteFault) line fresh h is = cc is
-  none-forged left now old new (ends.Refused (halts.Trace at kind)) line fresh h is = cc is
-  none-forged left now old new (ends.Refused (halts.Limit which)) line fresh h is = cc is
-  none-forged left now old new (ends.Refused (halts.RepeatedDraw a b)) line fresh h is = cc is
-  none-forged left now old new (ends.Refused halts.Memory) line fresh h is = cc is
-  none-forged left now old new ends.Memory line fresh h is = cc is
-  none-forged left now old new ends.ReadFault line fresh h is = cc is
-  none-forged left now old new ends.Limit line fresh h is = cc is
+  none-forged : (left now : Sourced) (old new : LinesMoment P K) (r : Result (Unit {0}) (End Halt))
+      (line : ℕ) → IsFresh old → Takes (DidLines Took Broke of) most_input left now old new r
+      → r ≡ Err (ends.Refused (halts.Forged line)) → ⊥
+  none-forged left now old new r line fresh h is =
+      let t = subst (λ (r : Result (Unit {0}) (End Halt)).
+      Takes (DidLines Took Broke of) most_input left now old new r) is h in
+      let p = t.taken.ends beginning (begins old fresh) in
+      forged-never (performed_all t.last) t.between new line p.0 p.2 t.ends.1
 
   pub never-forged : (left now : Sourced) (old new : LinesMoment P K)
       (read : Result (Unit {0}) (End Halt)) (line : ℕ) → IsFresh old
       → Takes (DidLines Took Broke of) most_input left now old new read
-      → ended read (Ok tt) ≡ Err (causes.Forged line) → ⊥
+      → ended read (Ok tt) ≡ Err (ends.Refused (halts.Forged line)) → ⊥
   never-forged left now old new (Ok done) line fresh h is = cc is
   never-forged left now old new (Err end) line fresh h is =
-      none-forged left now old new end line fresh h (cc is)
+      none-forged left now old new (Err end) line fresh h is

@@ -2,18 +2,21 @@
 
 ghost use Rattle.std.specs.Prelude.{◌≡◌, ℕ, Err};
 ghost use Rattle.text_lines.specs.Reading.{sourced};
-ghost use Rattle.replay.specs.declared.cause.Cause.TheVariants as causes;
+ghost use Rattle.text_lines.specs.declared.reading.End.TheVariants as ends;
+ghost use Rattle.trace_acts.specs.declared.halt.Halt.TheVariants as halts;
 ghost use Rattle.replay.specs.Sinks.{sunk};
 ghost use Rattle.replay.specs.Runs.{IsReplayed};
 ghost use Rattle.twin_schedule.specs.Sound.{IsTidy};
 ghost use Rattle.replay.specs.twin.TwoGroups.{transcript, two_groups};
 
+use crate::MAX_INPUT;
+use crate::ended::ended;
 use crate::twin::player::Player;
 use crate::twin::transcribing::Transcript;
-use crate::{Cause, MAX_INPUT, ended};
 use lan_base::{Sink, Source};
 use std::alloc::Global;
-use text_lines::read_lines;
+use text_lines::{End, read_lines};
+use trace_acts::Halt;
 use twin_schedule::{
     TwinReplay, law_acts_stop_for_their_own_reasons, law_groups_of_tidy_worlds_are_sound,
 };
@@ -25,13 +28,13 @@ pub fn replay_two<S: Source, K: Sink>(
     alloc: Global,
     source: &mut S,
     sink: &mut K,
-) -> Result<(), Cause>
+) -> Result<(), End<Halt>>
     ensures replayed { IsReplayed two_groups IsTidy transcript
         (sourced (S.left source.old) (S.faults source.old))
         (sourced (S.left source.new) (S.faults source.new))
         (sunk (K.held sink.old) (K.faults sink.old))
         (sunk (K.held sink.new) (K.faults sink.new)) result }
-    ensures unforged { (line : ℕ) → result ≡ Err (causes.Forged line) → ⊥ }
+    ensures unforged { (line : ℕ) → result ≡ Err (ends.Refused (halts.Forged line)) → ⊥ }
 {
     law_groups_of_tidy_worlds_are_sound();
     law_acts_stop_for_their_own_reasons();

@@ -1,7 +1,6 @@
 -- `audit`: a capture of a protected LAN is judged with its keys.
 use Rattle.std.specs.Prelude.{◌≡◌, ◌⊎◌, ℕ, List, [], Option, Some, None, Result, Ok, Err}
 use Rattle.lan_base.specs.Faults.{Rose}
-use Rattle.replay.specs.declared.cause.Cause.TheVariants as causes
 use Rattle.replay.specs.Sinks.{Sunk}
 use Rattle.audit_facts.specs.declared.view.AuditView.{AuditView}
 use Rattle.capture_audit.specs.declared.asks.Asks.{Asks}
@@ -18,7 +17,7 @@ use Rattle.audit_report.specs.declared.ending.Ending.TheVariants.{Whole}
 use Rattle.key_ring.specs.Rings.{Ring}
 use Rattle.rollover_program.specs.commands.Draw.{Shows}
 use Rattle.rollover_program.specs.declared.status.Status.{Status}
-use Rattle.rollover_program.specs.declared.status.Status.TheVariants.{Done, Halted, KeyLine, CaptureRefuted, CaptureDoubted, Packets, CaptureInput, Keys}
+use Rattle.rollover_program.specs.declared.status.Status.TheVariants.{Done, KeyLine, CaptureRefuted, CaptureDoubted, Packets, CaptureInput, Keys, ReadFault, WriteFault, Memory}
 
 -- the status of how an audit ended
 abbrev pub status_of_audit : Result (Unit {0}) AuditEnd → Status
@@ -29,9 +28,9 @@ status_of_audit (Err (ends.Doubted wrong undecided)) = CaptureDoubted wrong unde
 status_of_audit (Err (ends.Refused at why)) = Packets at why
 status_of_audit (Err ends.InputLimit) = CaptureInput
 status_of_audit (Err ends.KeyLimit) = Keys
-status_of_audit (Err ends.ReadFault) = Halted causes.ReadFault
-status_of_audit (Err ends.WriteFault) = Halted causes.WriteFault
-status_of_audit (Err ends.Memory) = Halted causes.Memory
+status_of_audit (Err ends.ReadFault) = ReadFault
+status_of_audit (Err ends.WriteFault) = WriteFault
+status_of_audit (Err ends.Memory) = Memory
 
 -- the capture was judged, and the status is that of how that ended
 abbrev pub EndsAsAudit : Asks → List ℕ → Option (List ℕ) → Type 0 → Option (List ℕ) → Option (List ℕ)
@@ -52,7 +51,7 @@ abbrev pub ShowsSeen : Asks → Result AuditView AuditEnd → Sunk → Sunk → 
 ShowsSeen asks (Ok view) old new status =
     ((picture : List ℕ) × (shown : Status) × Shows picture old new shown
     × (status ≡ status_behind shown (end_seen asks.strict (Ok view))))
-    ⊎ ((status ≡ Halted causes.Memory) × (new ≡ old))
+    ⊎ ((status ≡ Memory) × (new ≡ old))
 ShowsSeen asks (Err end) old new status = (status ≡ status_of_audit (Err end)) × (new ≡ old)
 
 -- the capture was seen, or why not; the audit ends so of which nothing is written; and what was seen was shown
@@ -83,4 +82,4 @@ abbrev pub IsCompleteAudit : Asks → List ℕ → ℕ → ℕ → ℕ → ℕ �
 IsCompleteAudit asks text source source_now sink sink_now status =
     (ring : Ring) (packets : List Unwrapped) → IsRead text (Some []) ring packets Whole
     → (Rose source source_now → ⊥) → (Rose sink sink_now → ⊥)
-    → EndsJudged asks ring packets status ⊎ (status ≡ Halted causes.Memory)
+    → EndsJudged asks ring packets status ⊎ (status ≡ Memory)

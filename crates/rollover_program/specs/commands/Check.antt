@@ -8,10 +8,9 @@ use Rattle.text_lines.specs.declared.unfinished.Unfinished.{Unfinished}
 use Rattle.text_lines.specs.declared.unfinished.Unfinished.TheVariants as ends
 use Rattle.transcript_check.specs.Verdicts.{is_clean, text_of}
 use Rattle.transcript_check.specs.Transcripts.{EndsJudging}
-use Rattle.replay.specs.declared.cause.Cause.TheVariants as causes
 use Rattle.replay.specs.Sinks.{Sunk, Wrote, BrokeOff}
 use Rattle.rollover_program.specs.declared.status.Status.{Status}
-use Rattle.rollover_program.specs.declared.status.Status.TheVariants.{Done, Halted, CheckInput, Refuted, Transcript}
+use Rattle.rollover_program.specs.declared.status.Status.TheVariants.{Done, CheckInput, Refuted, Transcript, ReadFault, WriteFault, Memory}
 
 -- the status of a verdict that was told: a transcript is refuted where a pair is there
 abbrev pub told : Verdict → Status
@@ -19,17 +18,17 @@ told verdict = if is_clean verdict then Done else Refuted
 
 -- the text of a verdict was written; a fault of the sink, and want of memory, leave a part of it
 abbrev pub Tells : Verdict → Sunk → Sunk → Status → Type 0
-Tells verdict old new (Halted causes.WriteFault) =
+Tells verdict old new WriteFault =
     Rose old.faults new.faults × BrokeOff (text_of verdict ∷ []) old new
-Tells verdict old new (Halted causes.Memory) = BrokeOff (text_of verdict ∷ []) old new
+Tells verdict old new Memory = BrokeOff (text_of verdict ∷ []) old new
 Tells verdict old new status = (status ≡ told verdict) × Wrote (text_of verdict ∷ []) old new
 
 -- the status where a transcript was not judged, or not drawn
 abbrev pub status_of : Unfinished CheckFault → Status
 status_of (ends.Refused line why) = Transcript line why
-status_of ends.Memory = Halted causes.Memory
-status_of ends.ReadFault = Halted causes.ReadFault
-status_of ends.WriteFault = Halted causes.WriteFault
+status_of ends.Memory = Memory
+status_of ends.ReadFault = ReadFault
+status_of ends.WriteFault = WriteFault
 status_of ends.Limit = CheckInput
 
 -- the transcript was judged, and then its verdict told; or it was not judged, and nothing was written

@@ -3,7 +3,6 @@
 ghost use Rattle.std.specs.Prelude.{◌≡◌, ◌≢◌, List, ℕ, Some, Ok};
 ghost use Rattle.lan_base.specs.Faults.{Rose};
 ghost use Rattle.replay.specs.Sinks.{sunk};
-ghost use Rattle.replay.specs.declared.cause.Cause.TheVariants as causes;
 ghost use Rattle.rollover_program.specs.declared.status.Status.TheVariants as statuses;
 ghost use Rattle.rollover_program.specs.commands.Audit.{EndsAsAudit, EndsAsView, IsCompleteAudit, ShowsSeen, status_of_audit};
 
@@ -13,7 +12,6 @@ use audit_facts::AuditView;
 use audit_picture::picture;
 use capture_audit::{Asks, AuditEnd, end_of_view, view_audit};
 use lan_base::{Sink, Source};
-use replay::Cause;
 use std::alloc::Global;
 use std::thread::Threads;
 
@@ -31,9 +29,9 @@ pub fn audit<T: Threads + Sync, S: Source, K: Sink>(
     ensures complete { (text : List ℕ) → S.left source.old ≡ Some text → IsCompleteAudit asks text
         (S.faults source.old) (S.faults source.new) (K.faults sink.old) (K.faults sink.new) result }
     ensures carried { result ≢ statuses.Usage }
-    ensures read_cause { result ≡ statuses.Halted causes.ReadFault
+    ensures read_cause { result ≡ statuses.ReadFault
         → Rose (S.faults source.old) (S.faults source.new) }
-    ensures write_cause { result ≡ statuses.Halted causes.WriteFault
+    ensures write_cause { result ≡ statuses.WriteFault
         → Rose (K.faults sink.old) (K.faults sink.new) }
 {
     status_of_audit(capture_audit::audit(rt, alloc, asks, source, sink))
@@ -54,9 +52,9 @@ pub fn draw_audit<T: Threads + Sync, S: Source, K: Sink>(
     ensures complete { (text : List ℕ) → S.left source.old ≡ Some text → IsCompleteAudit asks text
         (S.faults source.old) (S.faults source.new) (K.faults sink.old) (K.faults sink.new) result }
     ensures carried { result ≢ statuses.Usage }
-    ensures read_cause { result ≡ statuses.Halted causes.ReadFault
+    ensures read_cause { result ≡ statuses.ReadFault
         → Rose (S.faults source.old) (S.faults source.new) }
-    ensures write_cause { result ≡ statuses.Halted causes.WriteFault
+    ensures write_cause { result ≡ statuses.WriteFault
         → Rose (K.faults sink.old) (K.faults sink.new) }
 {
     match view_audit(rt, alloc, source) {
@@ -71,7 +69,7 @@ fn show_view<K: Sink>(alloc: Global, asks: Asks, view: &AuditView, sink: &mut K)
         (sunk (K.held sink.new) (K.faults sink.new)) result }
 {
     let Ok(picture) = picture(alloc, view) else {
-        return Status::Halted(Cause::Memory);
+        return Status::Memory;
     };
     match show(picture.as_slice(), sink) {
         Status::Done => status_of_audit(end_of_view(view, asks.strict)),
@@ -93,8 +91,8 @@ fn status_of_audit(answer: Result<(), AuditEnd>) -> Status
         Err(AuditEnd::Refused { at, why }) => Status::Packets { at, why },
         Err(AuditEnd::InputLimit) => Status::CaptureInput,
         Err(AuditEnd::KeyLimit) => Status::Keys,
-        Err(AuditEnd::ReadFault) => Status::Halted(Cause::ReadFault),
-        Err(AuditEnd::WriteFault) => Status::Halted(Cause::WriteFault),
-        Err(AuditEnd::Memory) => Status::Halted(Cause::Memory),
+        Err(AuditEnd::ReadFault) => Status::ReadFault,
+        Err(AuditEnd::WriteFault) => Status::WriteFault,
+        Err(AuditEnd::Memory) => Status::Memory,
     }
 }

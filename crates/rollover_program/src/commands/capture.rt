@@ -3,14 +3,12 @@
 ghost use Rattle.std.specs.Prelude.{◌≡◌, ◌≢◌, List, ℕ, Some};
 ghost use Rattle.lan_base.specs.Faults.{Rose};
 ghost use Rattle.text_lines.specs.Reading.{sourced};
-ghost use Rattle.replay.specs.declared.cause.Cause.TheVariants as causes;
 ghost use Rattle.replay.specs.Sinks.{sunk};
 ghost use Rattle.rollover_program.specs.declared.status.Status.TheVariants as statuses;
 ghost use Rattle.rollover_program.specs.commands.Capture.{EndsAsCapture, status_of_capture};
 
 use crate::status::Status;
 use lan_base::{Sink, Source};
-use replay::Cause;
 use std::alloc::Global;
 use text_lines::Unfinished;
 use transcript_capture::LineFault;
@@ -23,9 +21,9 @@ pub fn capture<S: Source, K: Sink>(alloc: Global, source: &mut S, sink: &mut K) 
         (sunk (K.held sink.old) (K.faults sink.old))
         (sunk (K.held sink.new) (K.faults sink.new)) result }
     ensures carried { result ≢ statuses.Usage }
-    ensures read_cause { result ≡ statuses.Halted causes.ReadFault
+    ensures read_cause { result ≡ statuses.ReadFault
         → Rose (S.faults source.old) (S.faults source.new) }
-    ensures write_cause { result ≡ statuses.Halted causes.WriteFault
+    ensures write_cause { result ≡ statuses.WriteFault
         → Rose (K.faults sink.old) (K.faults sink.new) }
 {
     status_of_capture(transcript_capture::capture(alloc, source, sink))
@@ -39,8 +37,8 @@ fn status_of_capture(answer: Result<(), Unfinished<LineFault>>) -> Status
         Ok(()) => Status::Done,
         Err(Unfinished::Refused { at, why }) => Status::Unrecorded { line: at, why },
         Err(Unfinished::Limit) => Status::CaptureInput,
-        Err(Unfinished::ReadFault) => Status::Halted(Cause::ReadFault),
-        Err(Unfinished::WriteFault) => Status::Halted(Cause::WriteFault),
-        Err(Unfinished::Memory) => Status::Halted(Cause::Memory),
+        Err(Unfinished::ReadFault) => Status::ReadFault,
+        Err(Unfinished::WriteFault) => Status::WriteFault,
+        Err(Unfinished::Memory) => Status::Memory,
     }
 }

@@ -3,14 +3,12 @@
 ghost use Rattle.std.specs.Prelude.{◌≡◌, ◌≢◌, List, ℕ, Some};
 ghost use Rattle.lan_base.specs.Faults.{Rose};
 ghost use Rattle.text_lines.specs.Reading.{sourced};
-ghost use Rattle.replay.specs.declared.cause.Cause.TheVariants as causes;
 ghost use Rattle.replay.specs.Sinks.{sunk};
 ghost use Rattle.rollover_program.specs.declared.status.Status.TheVariants as statuses;
 ghost use Rattle.rollover_program.specs.commands.Check.{EndsAsCheck, Tells, status_of, told};
 
-use crate::status::Status;
-use lan_base::{Sink, Source, Unwritten, write_all};
-use replay::Cause;
+use crate::status::{Status, status_of_unwritten};
+use lan_base::{Sink, Source, write_all};
 use std::alloc::Global;
 use text_lines::Unfinished;
 use transcript_check::{CheckFault, Verdict, judge};
@@ -23,9 +21,9 @@ pub fn check<S: Source, K: Sink>(alloc: Global, source: &mut S, sink: &mut K) ->
         (sunk (K.held sink.old) (K.faults sink.old))
         (sunk (K.held sink.new) (K.faults sink.new)) result }
     ensures carried { result ≢ statuses.Usage }
-    ensures read_cause { result ≡ statuses.Halted causes.ReadFault
+    ensures read_cause { result ≡ statuses.ReadFault
         → Rose (S.faults source.old) (S.faults source.new) }
-    ensures write_cause { result ≡ statuses.Halted causes.WriteFault
+    ensures write_cause { result ≡ statuses.WriteFault
         → Rose (K.faults sink.old) (K.faults sink.new) }
 {
     match judge(alloc, source) {
@@ -40,12 +38,11 @@ fn tell<K: Sink>(alloc: Global, verdict: &Verdict, sink: &mut K) -> Status
         (sunk (K.held sink.new) (K.faults sink.new)) result }
 {
     let Ok(text) = verdict.text(alloc) else {
-        return Status::Halted(Cause::Memory);
+        return Status::Memory;
     };
     match write_all(sink, &text) {
         Ok(()) => told(verdict),
-        Err(Unwritten::Failed) => Status::Halted(Cause::WriteFault),
-        Err(Unwritten::Memory) => Status::Halted(Cause::Memory),
+        Err(why) => status_of_unwritten(why),
     }
 }
 
@@ -66,9 +63,9 @@ pub fn status_of(why: Unfinished<CheckFault>) -> Status
 {
     match why {
         Unfinished::Refused { at, why } => Status::Transcript { line: at, why },
-        Unfinished::Memory => Status::Halted(Cause::Memory),
-        Unfinished::ReadFault => Status::Halted(Cause::ReadFault),
-        Unfinished::WriteFault => Status::Halted(Cause::WriteFault),
+        Unfinished::Memory => Status::Memory,
+        Unfinished::ReadFault => Status::ReadFault,
+        Unfinished::WriteFault => Status::WriteFault,
         Unfinished::Limit => Status::CheckInput,
     }
 }

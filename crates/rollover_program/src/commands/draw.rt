@@ -3,15 +3,13 @@
 ghost use Rattle.std.specs.Prelude.{◌≡◌, ◌≢◌, List, ℕ, Some};
 ghost use Rattle.lan_base.specs.Faults.{Rose};
 ghost use Rattle.text_lines.specs.Reading.{sourced};
-ghost use Rattle.replay.specs.declared.cause.Cause.TheVariants as causes;
 ghost use Rattle.replay.specs.Sinks.{sunk};
 ghost use Rattle.rollover_program.specs.declared.status.Status.TheVariants as statuses;
 ghost use Rattle.rollover_program.specs.commands.Draw.{EndsAsDraw, Shows};
 
 use crate::commands::check::status_of;
-use crate::status::Status;
-use lan_base::{Sink, Source, Unwritten, write_all};
-use replay::Cause;
+use crate::status::{Status, status_of_unwritten};
+use lan_base::{Sink, Source, write_all};
 use std::alloc::Global;
 
 /// Reads a transcript, and writes the picture of its keys at its end.
@@ -22,9 +20,9 @@ pub fn draw<S: Source, K: Sink>(alloc: Global, source: &mut S, sink: &mut K) -> 
         (sunk (K.held sink.old) (K.faults sink.old))
         (sunk (K.held sink.new) (K.faults sink.new)) result }
     ensures carried { result ≢ statuses.Usage }
-    ensures read_cause { result ≡ statuses.Halted causes.ReadFault
+    ensures read_cause { result ≡ statuses.ReadFault
         → Rose (S.faults source.old) (S.faults source.new) }
-    ensures write_cause { result ≡ statuses.Halted causes.WriteFault
+    ensures write_cause { result ≡ statuses.WriteFault
         → Rose (K.faults sink.old) (K.faults sink.new) }
 {
     match transcript_picture::draw(alloc, source) {
@@ -40,7 +38,6 @@ pub fn show<K: Sink>(picture: &[u8], sink: &mut K) -> Status
 {
     match write_all(sink, picture) {
         Ok(()) => Status::Done,
-        Err(Unwritten::Failed) => Status::Halted(Cause::WriteFault),
-        Err(Unwritten::Memory) => Status::Halted(Cause::Memory),
+        Err(why) => status_of_unwritten(why),
     }
 }

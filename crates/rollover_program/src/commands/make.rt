@@ -5,9 +5,8 @@ ghost use Rattle.trace_maker.specs.Made.{made};
 ghost use Rattle.replay.specs.Sinks.{sunk};
 ghost use Rattle.rollover_program.specs.commands.Make.{EndsMade};
 
-use crate::status::Status;
-use lan_base::{Sink, Unwritten, write_all};
-use replay::Cause;
+use crate::status::{Status, status_of_unwritten};
+use lan_base::{Sink, write_all};
 use std::alloc::{AllocError, Global};
 
 /// Writes the trace that is made of a number.
@@ -16,12 +15,11 @@ pub fn make<K: Sink>(alloc: Global, number: u32, sink: &mut K) -> Status
         (sunk (K.held sink.new) (K.faults sink.new)) result }
 {
     let Ok(text) = made(alloc, number) else {
-        return Status::Halted(Cause::Memory);
+        return Status::Memory;
     };
     match write_all(sink, &text) {
         Ok(()) => Status::Done,
-        Err(Unwritten::Failed) => Status::Halted(Cause::WriteFault),
-        Err(Unwritten::Memory) => Status::Halted(Cause::Memory),
+        Err(why) => status_of_unwritten(why),
     }
 }
 

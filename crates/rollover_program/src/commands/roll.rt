@@ -3,13 +3,12 @@
 ghost use Rattle.std.specs.Prelude.{◌≡◌, ◌≢◌, List, ℕ, Some};
 ghost use Rattle.lan_base.specs.Faults.{Rose};
 ghost use Rattle.text_lines.specs.Reading.{sourced};
-ghost use Rattle.replay.specs.declared.cause.Cause.TheVariants as causes;
 ghost use Rattle.replay.specs.Sinks.{sunk};
 ghost use Rattle.rollover_program.specs.declared.status.Status.TheVariants as statuses;
 ghost use Rattle.rollover_program.specs.commands.Roll.{EndsAsRoll};
 
 use crate::laws::law_tidy_worlds_of_two_groups_are_promised;
-use crate::status::{Status, status_of};
+use crate::status::{Status, status_of_replay};
 use lan_base::{Sink, Source};
 use replay::twin::replay_two;
 use std::alloc::Global;
@@ -22,12 +21,12 @@ pub fn roll<S: Source, K: Sink>(alloc: Global, source: &mut S, sink: &mut K) -> 
         (sunk (K.held sink.old) (K.faults sink.old))
         (sunk (K.held sink.new) (K.faults sink.new)) result }
     ensures carried { result ≢ statuses.Usage }
-    ensures read_cause { result ≡ statuses.Halted causes.ReadFault
+    ensures read_cause { result ≡ statuses.ReadFault
         → Rose (S.faults source.old) (S.faults source.new) }
-    ensures write_cause { result ≡ statuses.Halted causes.WriteFault
+    ensures write_cause { result ≡ statuses.WriteFault
         → Rose (K.faults sink.old) (K.faults sink.new) }
-    ensures unforged { (line : ℕ) → result ≢ statuses.Halted (causes.Forged line) }
+    ensures unforged { (line : ℕ) → result ≢ statuses.Forged line }
 {
     law_tidy_worlds_of_two_groups_are_promised();
-    status_of(replay_two(alloc, source, sink))
+    status_of_replay(replay_two(alloc, source, sink))
 }

@@ -3,13 +3,12 @@
 ghost use Rattle.std.specs.Prelude.{◌≡◌, ◌≢◌, List, ℕ, Some};
 ghost use Rattle.lan_base.specs.Faults.{Rose};
 ghost use Rattle.text_lines.specs.Reading.{sourced};
-ghost use Rattle.replay.specs.declared.cause.Cause.TheVariants as causes;
 ghost use Rattle.replay.specs.Sinks.{sunk};
 ghost use Rattle.rollover_program.specs.declared.status.Status.TheVariants as statuses;
 ghost use Rattle.rollover_program.specs.commands.Run.{EndsAsRun};
 
 use crate::laws::law_tidy_runs_are_promised;
-use crate::status::{Status, status_of};
+use crate::status::{Status, status_of_replay};
 use lan_base::{Sink, Source};
 use replay::AnyGate;
 use std::alloc::Global;
@@ -30,11 +29,11 @@ pub fn run<T: Threads + Sync, S: Source, K: Sink>(
         (sunk (K.held sink.old) (K.faults sink.old))
         (sunk (K.held sink.new) (K.faults sink.new)) result }
     ensures carried { result ≢ statuses.Usage }
-    ensures read_cause { result ≡ statuses.Halted causes.ReadFault
+    ensures read_cause { result ≡ statuses.ReadFault
         → Rose (S.faults source.old) (S.faults source.new) }
-    ensures write_cause { result ≡ statuses.Halted causes.WriteFault
+    ensures write_cause { result ≡ statuses.WriteFault
         → Rose (K.faults sink.old) (K.faults sink.new) }
 {
     law_tidy_runs_are_promised();
-    status_of(replay::replay(rt, alloc, source, sink, gate, summary))
+    status_of_replay(replay::replay(rt, alloc, source, sink, gate, summary))
 }

@@ -2,10 +2,10 @@ use Rattle.std.proofs.Common.{ap, sym, refl, inr, ◌∙◌}
 use Rattle.std.specs.Prelude.{Err}
 use Rattle.text_lines.specs.Reading.{sourced}
 use Rattle.replay.specs.Sinks.{sunk}
-use Rattle.replay.specs.declared.cause.Cause.TheVariants as causes
+use Rattle.rollover_program.specs.declared.status.Status.TheVariants.{ReadFault, WriteFault, Forged}
 use Rattle.rollover_program.specs.declared.words.Order.TheVariants.{Roll}
 use Rattle.rollover_program.proofs.Ordered.{by_no_usage}
-use Rattle.rollover_program.proofs.Refused.{plain_orders, either, usage_only, not_halted, memory}
+use Rattle.rollover_program.proofs.Refused.{plain_orders, either, usage_only, neither, memory}
 use Rattle.rollover_program.proofs.Orders.{completes, either_order, nothing_done, one_order}
 use Rattle.rollover_program.proofs.top.rollover.Goals as goal
 
@@ -84,15 +84,15 @@ returns-in-Err-clause-unread g c = λ n asked. refl
 
 pub returns-in-Err-clause-read_cause : goal.returns-in-Err-clause-read_cause
 returns-in-Err-clause-read_cause g c = λ e.
-    not_halted c.in-Err.refusal causes.ReadFault _ (λ m. cc) (sym c.status_of_refusal.ensures ∙ e)
+    neither c.in-Err.refusal ReadFault _ (λ u. cc u) (λ m. cc m) (sym c.status_of_refusal.ensures ∙ e)
 
 pub returns-in-Err-clause-write_cause : goal.returns-in-Err-clause-write_cause
 returns-in-Err-clause-write_cause g c = λ e.
-    not_halted c.in-Err.refusal causes.WriteFault _ (λ m. cc) (sym c.status_of_refusal.ensures ∙ e)
+    neither c.in-Err.refusal WriteFault _ (λ u. cc u) (λ m. cc m) (sym c.status_of_refusal.ensures ∙ e)
 
 pub returns-in-Err-clause-unforged : goal.returns-in-Err-clause-unforged
 returns-in-Err-clause-unforged g c = λ line asked e.
-    not_halted c.in-Err.refusal (causes.Forged line) _ (λ m. cc) (sym c.status_of_refusal.ensures ∙ e)
+    neither c.in-Err.refusal (Forged line) _ (λ u. cc u) (λ m. cc m) (sym c.status_of_refusal.ensures ∙ e)
 
 pub returns-in-Err-clause-complete : goal.returns-in-Err-clause-complete
 returns-in-Err-clause-complete g c = λ order asked text on write.

@@ -13,14 +13,7 @@ returns-in-Ok-write_all g c =
     (c.deref.ensures.value ∙ c.in-Ok.ensures) c.in-Ok-write_all.ensures.all
     c.write_all.ensures.counts c.told.ensures
 
-pub returns-in-Err-Failed : goal.returns-in-Err-Failed
-returns-in-Err-Failed g c = (
-  c.in-Err-Failed.ensures.failed (ap Err c.in-Err-Failed.field-0-is),
-  part_told c.args.verdict.now c.deref.result.now _ _ (c.deref.ensures.value ∙ c.in-Ok.ensures)
-      c.in-Err-Failed.ensures.prefix c.write_all.ensures.counts,
-)
-
 pub returns : goal.returns
-returns g c =
-    part_told c.args.verdict.now c.deref.result.now _ _ (c.deref.ensures.value ∙ c.in-Ok.ensures)
-    c.in-Err-Memory.ensures.prefix c.write_all.ensures.counts
+returns g c = rw c.status_of_unwritten.ensures
+    (part_told c.args.verdict.now c.deref.result.now _ _ c.in-Err.why (c.deref.ensures.value ∙ c.in-Ok.ensures)
+    c.in-Err.ensures.prefix c.write_all.ensures.counts (λ is. c.in-Err.ensures.failed (ap Err is)))
