@@ -250,7 +250,7 @@ looks n id m k is opened s r _ at fits =
     same_words_back : (ws : List ℕ) (i : ℕ) (P : List ℕ → Type 0) → P (set ws i (get_or ws i 0)) → P ws
     same_words_back ws i P = subst P (set-get_or ws i 0)
 
--- the same at a word that is known
+-- 3. control swaps a slot to open, whose place and new word are told by what they equal
 pub raises_as : (n id : ℕ) (m : M) (k : AssociationNumber) (j e w : ℕ) → j ≡ number_of k → m.0 ≡ Control (control_of m.0) → (slot (control_of m.0) k).shut ≡ true → top (control_of m.0).raises < e → 5 * e ≤ length (control_of m.0).card_words → w ≡ open_word e (control_of m.0).first
     → Allows Slotted n id m j (λ _. w) (Raises (step n j w 0 none) m)
 raises_as n id m k j e w at is shut above carded same = subst (λ (i : ℕ). Allows Slotted n id m i (λ _. w) (Raises (step n i w 0 none) m)) (sym at) (subst (λ (x : ℕ). Allows Slotted n id m (number_of k) (λ _. x) (Raises (step n (number_of k) x 0 none) m)) (sym same) (raises n id m k e is shut above carded))

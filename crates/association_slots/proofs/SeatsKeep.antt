@@ -102,7 +102,7 @@ given_fits c ws vs a k opened = let z = a.settled.open_some k opened in let e : 
         let here : b.an ≡ k = once c.raises a.settled.rise (b.an, b.met) (k, (slot c k).epoch) m.raised (a.settled.slot_raised k (a.settled.open_some k opened)) at in
         (subst (λ (t : AssociationNumber × ℕ). AtLeast c ws t.0 t.1 (b.pn + 1)) (λ j. (here j, at j)) (m.claim is).3).now (opened, refl)
 
--- the same in words of control alone
+-- the word of an open slot has come to the least next number that control knows of
 pub counted_fits : (c : ControlView) (ws : List ℕ) (vs : List View) → Around c ws vs → (k : AssociationNumber) → (slot c k).shut ≡ false → (least_next c k).next ≤ next_of (get_or ws (number_of k) 0)
 counted_fits c ws vs a k opened = (given_fits c ws vs a k opened).1.now (opened, refl)
 

@@ -22,7 +22,9 @@ pub record IsNext (c : ControlView) (an : AssociationNumber) (epoch n : ℕ) : T
   pub is_sum : AllIn c → n ≡ told_sum c an epoch
   pub bound : AllIn c → n ≤ 2 ^ 32 + count (lost an epoch) c.told
 
--- the same of a number found at a shut, where later additions may have met the epoch
+-- what a next number is that control found at a shut: above each number that was claimed, not below what
+-- control saw, above 2 ^ 32 where the epoch was marked as over; with no seat out at most the sum of what
+-- was told, since later additions may have met the epoch, and above 2 ^ 32 by no more than what got nothing
 pub record WasNext (c : ControlView) (f : NextSeen) : Type 0 where
   pub above_claims : (a : Addition) → In a c.told → a.claimed ≡ true → a.an ≡ f.an → a.met ≡ f.epoch
       → a.pn < f.next

@@ -236,7 +236,7 @@ given-later settings x r i g = record {
   gives = g.gives;
 }
 
--- the same key under the same identifier and association number
+-- a key is given where the same SAK is given under the same identifier and association number
 given-as-made : (settings : Settings) (r : Run) (made i : Install) → IsGiven settings r made
     → made.id ≡ i.id → made.an ≡ i.an → made.sak ≡ i.sak → IsGiven settings r i
 given-as-made settings r made i g id an sak = record {

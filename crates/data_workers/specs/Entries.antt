@@ -16,7 +16,7 @@ use Rattle.data_workers.specs.declared.sender.Sender.{Sender}
 abbrev pub frame_under : Sender → Card → AssociationNumber → ℕ → List ℕ
 frame_under s card an pn = protected (secret_octets card.sak) s.sci an pn card.conf s.user
 
--- the same under a claim and its card, with what it was protected under
+-- the sender's frame under a claim and its card, with what it was protected under
 abbrev pub taken_by : Sender → Claim → Protected
 taken_by s k = record {
   station = s.station;

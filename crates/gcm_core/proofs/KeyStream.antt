@@ -132,7 +132,7 @@ enciphered_more key counter octets whole stream piece octets' start end h eend e
       rest = rw (lo, front, back, append_assoc, ← split) was';
     }
 
--- the same, block i
+-- once block i is enciphered, as far as the octets go, the octets before block i + 1 are
 pub enciphered_block : (key counter octets whole stream piece octets' : List ℕ) (i end : ℕ) → 16 * i < length octets
     → end ≡ min (length octets) (16 * i + 16) → stream ≡ aes key counter → length stream ≡ 16
     → piece ≡ octets_sum (take (end - 16 * i) (drop (16 * i) octets)) stream → octets' ≡ put_mid (16 * i) (end - 16 * i) octets piece

@@ -43,13 +43,13 @@ user_data tag frame text = if tag.conf then text else secure_data tag frame
 abbrev pub with_user_data : Tag → List ℕ → List ℕ → List ℕ
 with_user_data tag frame user = take tag.start frame ++ (user ++ drop (tag.start + tag.len) frame)
 
--- the same by computing: the tag that the enciphered octets call for is compared, and then they are
--- deciphered, which is enciphering again
+-- the frame's tag is the one that its enciphered octets call for
 abbrev pub is_tag_right : List ℕ → Tag → List ℕ → Bool
 is_tag_right key tag frame =
     pointwise nat_eq (gcm_tag key (iv tag.sci tag.pn) (additional_data tag frame)
     (enciphered tag frame)) (check_octets tag frame)
 
+-- the user data as the enciphered octets give it: deciphering is enciphering again
 abbrev pub deciphered : List ℕ → Tag → List ℕ → List ℕ
 deciphered key tag frame =
     user_data tag frame (gcm_text key (iv tag.sci tag.pn) (enciphered tag frame))

@@ -75,8 +75,9 @@ is_mode frame =
     not (is_broadcast frame) && not (are_same (is_end_station frame) (has_sci frame))
     && are_same (is_enciphered frame) (is_changed frame)
 
--- the same where the SCI may be implied: neither ES nor SC is set, and there is no other sender than the
--- one whose address the frame has
+-- the flags are those of a mode that is read where the SCI may be implied: no broadcast, not both of ES and
+-- SC, and E and C alike; where neither ES nor SC is set, there is no other sender than the one whose
+-- address the frame has
 abbrev pub is_implied_mode : List ℕ → Bool
 is_implied_mode frame =
     not (is_broadcast frame) && not (is_end_station frame && has_sci frame)

@@ -90,7 +90,7 @@ none-of p (suc m) e = go (p (suc m)) refl e (none-of p m)
     go true passes is before = absurd (cc is)
     go false fails is before = one-more p 0 m fails (before is)
 
--- the same numbers pass
+-- two tests that agree as far as k pass the same numbers
 pub same-below : (p q : ℕ → Bool) (k : ℕ) → ((n : ℕ) → 0 < n → n ≤ k → p n ≡ q n)
     → greatest_first p k ≡ greatest_first q k
 same-below p q zero same = refl
@@ -201,7 +201,7 @@ module _ (p q : ℕ → Bool) where
             left.all;
       }
 
-  -- the same of lists that have these parts
+  -- what is left of two lists, told by the first number of each and the numbers behind it
   parts : (front sofar one other : List ℕ) (a b k : ℕ) (behind_a behind_b : List ℕ)
       → IsLeft one other sofar front k → one ≡ a ∷ behind_a → other ≡ b ∷ behind_b
       → IsLeft (a ∷ behind_a) (b ∷ behind_b) sofar front k

@@ -34,10 +34,11 @@ abbrev pub given : List Entry → Noted KeyId Named
 given [] packet = None
 given (entry ∷ before) packet = given_or (gives before entry) packet (given before packet)
 
--- the same, by key
+-- a key, and the identifier that names it
 abbrev pub turned : KeyId × Named → ℕ × KeyId
 turned it = (it.1.key, it.0)
 
+-- the key that the packet of a number gives, and the key's identifier
 abbrev pub key_given : List Entry → Noted ℕ KeyId
 key_given history packet = option_map turned (given history packet)
 

@@ -16,7 +16,7 @@ use Rattle.known_keys.specs.Known.{number_told}
 abbrev pub Naming : Type 0
 Naming = (Mi × ℕ) × (ℕ × ℕ)
 
--- the same in a group, with the offset
+-- a naming in a group, with the confidentiality offset
 abbrev pub Statement : Type 0
 Statement = ℕ × (Naming × ℕ)
 

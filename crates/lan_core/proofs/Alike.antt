@@ -115,7 +115,7 @@ module _ (settings : Settings) (q c : Run) (alike : AreAlike settings q c) where
   reaches-same s events.Emit = refl
   reaches-same s (events.Inject station octets) = refl
 
-  -- the same event behind both
+  -- the life of a station is the same behind one event after both runs
   life-same : (s : ℕ) (shown : List Fact) (e : Event)
       → life_after settings s q shown e (life settings s q)
       ≡ life_after settings s c shown e (life settings s c)

@@ -172,7 +172,7 @@ pub record Keeps (event : Event) (facts : List Fact) (old new : Stage) : Type 0 
   pub seats : KeepSeats old.words new.words
   pub still : event ≡ events.Emit → new.words ≡ old.words
 
--- the same steps or one more
+-- an event adds at most a step to what control performs: that is kept after it where it was before
 kept-some : (old new : Stage) (event : Event) (before after : Option ℕ)
     → KeepsStep event before after (steps_of old) (steps_of new)
     → is_some new.steps ≡ is_some old.steps

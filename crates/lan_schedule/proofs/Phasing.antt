@@ -288,7 +288,7 @@ refused-order line w phase stage stands is = inl (record {
   halts = ap (λ (n : ℕ). halts.Trace n kinds.Order) stands.line;
 })
 
--- the same reason
+-- a refusal is that of an equal reason at an equal number of the line
 refused-same : (a b : Option Kind) (m n : ℕ) (halt : Halt) → a ≡ b → m ≡ n → Refused a m halt
     → Refused b n halt
 refused-same a b m n halt reason number refused = record {

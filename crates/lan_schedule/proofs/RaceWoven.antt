@@ -67,7 +67,7 @@ module _ (w : World) (workers : List Worker) (lines : List Numbered) (now : Stag
   abbrev whole : Run
   whole = followed_by part w.run
 
-  -- the same world by the part
+  -- the world after the race, with its run told by the part
   abbrev by_part : World
   by_part = record { run = whole; kept = u.kept }
 

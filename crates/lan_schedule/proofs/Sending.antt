@@ -239,7 +239,7 @@ module _ {K : Type 0} {Took : K → Report → K → Type 0} {Broke : K → Repo
         mid.outlet now.outlet new r first.3 first.5 (as-left (happen event) emit w first.0 first.1)
         (d.ends mark first.0 later first.4 first.2 comes_later)
 
-    -- the same act, told of another value that is the same
+    -- who did the act of a value did that of an equal value
     pub same-did : {A : Type 0} (f : A → Act) (a b : A) (old new : Moment Stage K)
         (r : Result (Unit {0}) Halt) → a ≡ b → Did Took Broke (f a) old new r
         → Did Took Broke (f b) old new r

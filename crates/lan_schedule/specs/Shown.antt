@@ -21,7 +21,7 @@ words_in (Some stage) = stage.words
 abbrev pub words_of : Replay → List ControlAt
 words_of replay = words_in replay.stage
 
--- the same of the station at a place
+-- this is what control knows of the words of the station at a place
 abbrev pub HasWords : Replay → ℕ → ControlAt → Type 0
 HasWords replay s control = slice_get (words_of replay) s ≡ Some control
 

@@ -43,7 +43,7 @@ pub record StandsWith (Tied : Bool → Bool → Settings → Run → List Contro
   -- what control performs is kept in the midst of a race alone
   pub steps : is_some stage.steps ≡ is_racing w.kept.phase
 
--- the same, between two events
+-- a group at work stands for a world between two events
 abbrev pub StandsFor : World → Stage → Type 0
 StandsFor w stage = StandsWith Says w stage
 

@@ -153,7 +153,7 @@ FillsMore limit text given held new left (Err Failed) =
     × IsTaken limit text (given ++ held) left
 FillsMore limit text given held new left (Err Memory) = ⊤
 
--- the same where nothing was held
+-- what asking for more did, where no octets were held: some are held now, or there are no more
 abbrev pub Fills : ℕ → List ℕ → List ℕ → Held → Option (List ℕ) → Result Bool ReadEnd → Type 0
 Fills limit text given new left (Ok true) =
     Stands limit text given new left × (1 ≤ length new.octets)

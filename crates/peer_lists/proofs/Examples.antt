@@ -96,7 +96,7 @@ abbrev crowd_after : List Peering → ℕ → List Peering
 crowd_after h zero = h
 crowd_after h (suc n) = plain (101 + n) (101 + n) 1 ∷ crowd_after h n
 
--- the same in the first tick
+-- the members 101 up to 100 + n, each heard once in the first tick
 abbrev crowd : ℕ → List Peering
 crowd = crowd_after (ticked ∷ [])
 

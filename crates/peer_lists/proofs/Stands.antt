@@ -174,7 +174,7 @@ later-stands own t h s at =
 pub len-stands : (own : Own) (t : Table) (h : List Peering) → StandsFor own t h → length t.rows ≡ length (known own h)
 len-stands own t h s = sym (length-map t.rows member) ∙ ap length (rows-known own h t.rows s.ascending s.rows)
 
--- the same, as `hear` comes to know them
+-- the table's answers to what is heard, told by the values that `hear` comes to know
 
 pub reason-told : (own : Own) (t : Table) (h : List Peering) (x : Heard) (place : Result ℕ ℕ) (ps : List Remembered) (o : Option PeerRefusal) → ps ≡ t.rows → IsSearchInRange place (length ps) → IsBinarySearchResult (λ p. order (member p) x.mi) ps place
     → o ≡ option_or (echo t.own x) (reason_at place t.rows x) → StandsFor own t h → reason_after own h x ≡ o

@@ -34,7 +34,7 @@ module _ (c : ControlView) (ws : List ℕ) (a : Account) (left : IsAsLeft c ws) 
     opens = subst (λ (p : Current). p.present ≡ true → (epoch_of (get_or ws (number_of p.an) 0) ≡ p.epoch) × (next_of (get_or ws (number_of p.an) 0) ≡ a.nexts p.epoch)) now-is shows;
   }
 
--- the same where they keep up with it
+-- where the words keep up with the account, the number that is shown may be ahead of the next one
 module _ (c : ControlView) (ws : List ℕ) (a : Account) (left : IsAsLeft c ws) (t : KeepUp a c)
     (counted : (an : AssociationNumber) (epoch : ℕ) → IsOpen c an epoch
     → (least_next c an).next ≤ next_of (get_or ws (number_of an) 0)) where

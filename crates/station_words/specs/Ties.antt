@@ -144,7 +144,7 @@ pub record HaveFollowed (settings : Settings) (r : Run) (shown : List Fact) (old
   pub cards : (s : ℕ) (c d : ControlAt) → slice_get old s ≡ Some c → slice_get new s ≡ Some d
       → CardsFollow settings r s shown c d
 
--- the same, where each key that the facts install is held after a run
+-- the words of each station followed facts, if each key that these install is held after a run
 abbrev pub Followed : Settings → Run → List Fact → List ControlAt → List ControlAt → Type 0
 Followed settings r shown old new =
     AreHeld settings r shown → HaveFollowed settings r shown old new

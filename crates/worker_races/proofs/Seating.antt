@@ -69,7 +69,7 @@ joined-view s seat old new has t =
 
 -- ---- seats go out
 
--- the same but for the seats that are out
+-- two views of control differ at most in the seats that are out
 abbrev pub Shares : ControlView → ControlView → Type 0
 Shares c d = d ≡ record c { out = d.out }
 

@@ -22,7 +22,7 @@ four_products h y a b c d =
     (sum_of (product reduction (bits b) (power h 2))
     (sum_of (product reduction (bits c) (power h 1)) (product reduction (bits d) h)))
 
--- the same of no hash before them
+-- the products of four blocks, no hash before them, with the fourth power and so on
 abbrev pub four_powers : List Bool → List ℕ → List ℕ → List ℕ → List ℕ → List Bool
 four_powers h a b c d =
     sum_of (product reduction (bits a) (power h 3))

@@ -21,7 +21,7 @@ rows_of_octet rows zero o b = replicate 128 false
 rows_of_octet rows (suc k) o b =
     sum_of (first_octet (rows o b)) (times_power 8 (rows_of_octet rows k (suc o) b))
 
--- the same for all octets of a block at once, as the code does it: a vector for each row
+-- k rows from row o on, for all octets of a block at once, as the code does it: a vector for each row
 abbrev pub rows_of_block : (ℕ → ℕ → ℕ) → ℕ → ℕ → List ℕ → List Bool
 rows_of_block rows zero o xs = replicate 128 false
 rows_of_block rows (suc k) o xs =

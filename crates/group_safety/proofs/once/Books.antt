@@ -50,7 +50,7 @@ pub record Follows (b c : Book) (s : ℕ) (l : Deeds) (is ms : List Install) (ss
     pub here : c.life s ≡ Some l
     pub there : (t : ℕ) → s ≢ t → c.life t ≡ b.life t
 
--- the same book
+-- a book follows itself: nothing is added
 pub follows-itself : (b : Book) (s : ℕ) (l : Deeds) → b.life s ≡ Some l → Follows b b s l [] [] []
 follows-itself b s l living = record {
   births = refl;

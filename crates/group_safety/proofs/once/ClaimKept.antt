@@ -344,7 +344,7 @@ emit-on settings users f r w p user k waits place given shows =
     only frame sec y (inl e) = inl (ap (λ (w : Frame). is_sec w.octets) e ∙ sec)
     only frame sec y (inr i) = elim i [ ]
 
--- the same, for octets that are the claim's frame
+-- what is known stays so at an emission of octets that are the frame of the claim that waits
 emit-with : (settings : Settings) (users : List UserFrame) (f : List Fact) (r : Run) (w : Waiting)
     (p : Profile) (user : UserFrame) (octets : List ℕ) → IsKnown settings users r
     → waiting settings r ≡ Some w → slice_get (stations r) w.station ≡ Some p

@@ -31,7 +31,7 @@ pub record IsPutAt (place : Place) (number : ℕ) (old new : Told) : Type 0 wher
   pub here : numbers_at new place ≡ with_place number (numbers_at old place)
   pub others : (q : Place) → q ≢ place → numbers_at new q ≡ numbers_at old q
 
--- the same, by sender and association number
+-- a number more stands under one sender and association number
 pub record IsToldTo (sender : Sender) (an : AssociationNumber) (number : ℕ) (old new : Told) : Type 0
   where
     pub here : numbers_under new sender an ≡ with_place number (numbers_under old sender an)

@@ -9,7 +9,7 @@ abbrev pub Judges : Option Stop → Result Unit Stop → Type 0
 Judges stop (Ok _) = stop ≡ None
 Judges stop (Err refused) = stop ≡ Some refused
 
--- the same, of a call that takes memory
+-- a call that takes memory goes on where there is no stop, and else answers why: the stop, or want of memory
 abbrev pub MayJudge : Option Stop → Result Unit StepError → Type 0
 MayJudge stop (Ok _) = stop ≡ None
 MayJudge stop (Err error) = IsWhy stop error

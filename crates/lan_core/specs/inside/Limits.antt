@@ -21,7 +21,8 @@ passed_by frames octets ticks installs stations =
     else if nat_lt most_stations stations then Some Stations
     else None
 
--- the same, where these frames are on the air
+-- the first limit that is passed by these frames on the air, and so many ticks, installs at a station,
+-- and stations
 abbrev pub passed_with : List (List ℕ) → ℕ → ℕ → ℕ → Option Which
 passed_with frames ticks installs stations =
     passed_by (length frames) (sum (map length frames)) ticks installs stations

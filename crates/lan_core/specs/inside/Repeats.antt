@@ -30,7 +30,7 @@ is_so test (Some x) = test x
 abbrev pub begins : List ℕ → List ℕ → Bool
 begins octets frame = starts_with nat_eq frame octets
 
--- the same, of the frame at a place, if there is one
+-- whether there is a frame at a place, and begins with octets
 abbrev pub begins_at : List (List ℕ) → List ℕ → Option ℕ → Bool
 begins_at frames octets place = is_so (begins octets) (option_and_then (slice_get frames) place)
 

@@ -44,7 +44,7 @@ pub record Did {K : Type 0} (Took : K → Report → K → Type 0)
       new result
   pub seats : KeepSeats old.value.words new.value.words
 
--- the same in the worlds of which this holds
+-- A call did an act, as `Did` says, but in those of the worlds alone of which `Holds` is so.
 pub record DidWhere {K : Type 0} (Holds : World → Type 0) (Took : K → Report → K → Type 0)
     (Broke : K → Report → K → Unwritten → Type 0) (act : Act) (old new : Moment Stage K)
     (result : Result (Unit {0}) Halt) : Type 0 where

@@ -111,7 +111,7 @@ shows-next settings users c m s e move =
     go events.Emit own shown allowed first = absurd (cc own)
     go (events.Inject station octets) own shown allowed first = quiet shown first
 
--- the same after another run that is seen as the first
+-- after two runs that are seen alike an event shows the same number
 pub shown-same : (settings : Settings) (q c : Run) → AreAlike settings q c → (s e : ℕ)
     (shown : List Fact) (f : Event) → shown_by settings s e q shown f ≡ shown_by settings s e c shown f
 shown-same settings q c seen s e shown (events.Start name sci priority) = refl

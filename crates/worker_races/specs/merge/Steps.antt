@@ -101,7 +101,7 @@ abbrev pub event_at : List Step → Mark → Option Event
 event_at steps (Control n m) = option_map (λ s. s.event) (slice_get steps n)
 event_at steps (Claim x) = Some (events.Claim x.station (x.log + 1) x.number)
 
--- the same by its rank alone
+-- the event of a rank: a step's own, or a claim for the user frame of its log, from 1
 abbrev pub event_of_rank : List Step → Rank → Option Event
 event_of_rank steps r =
     if r.late == 1 then option_map (λ s. s.event) (slice_get steps r.place)

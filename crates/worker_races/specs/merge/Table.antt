@@ -50,7 +50,8 @@ pub data IsTold (top : ℕ) (before after : Option Key) (words : List Current) :
   changes : (k b : Key) → before ≡ Some k → after ≡ Some b → k.epoch < b.epoch
       → words ≡ absent_after top ∷ present_at b.an b.epoch ∷ [] → IsTold top before after words
 
--- the same by the facts of an event at a station
+-- what the facts of an event told the word of station s, by the last epoch pointed at and the AN of the
+-- key that transmits
 abbrev pub words_of : ℕ → ℕ → Option AssociationNumber → List Fact → List Current
 words_of s top o [] = []
 words_of s top o (facts.Began t id an epoch cause ∷ later) =

@@ -32,7 +32,7 @@ next s e r (Claim x ∷ past) =
     if not x.refused && ((x.station == s) && (x.epoch == e))
     then max (suc x.number) (next s e r past) else next s e r past
 
--- the same at the newest event of s that is no claim: where none is, d
+-- the next number of s under e at the newest event of s that is no claim: where none is, d
 unfoldable pub settled : ℕ → ℕ → ℕ → ℕ → List Mark → ℕ
 settled s e r d [] = d
 settled s e r d (Control n m ∷ past) =
