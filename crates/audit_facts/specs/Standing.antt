@@ -1,11 +1,11 @@
 -- What is kept of packets.
 use Rattle.std.specs.Prelude.{List}
 use Rattle.use_notes.specs.changes.Standing.{Senders, StandsFor as ChangesStandFor}
-use Rattle.mark_notes.specs.Standing.{Kept as Marks, StandsFor as MarksStandFor}
+use Rattle.mark_notes.specs.Standing.{KeptMarks, StandsFor as MarksStandFor}
 use Rattle.member_notes.specs.Spoken.{Spoken}
 use Rattle.member_notes.specs.FactsKept.{HoldsFacts, Speakers}
 use Rattle.rollover_notes.specs.Events.{Event}
-use Rattle.rollover_notes.specs.Standing.{Kept as RolloverKept, StandsFor as RolloverStandsFor}
+use Rattle.rollover_notes.specs.Standing.{KeptRollovers, StandsFor as RolloverStandsFor}
 use Rattle.use_notes.specs.declared.frame.RightFrame.{RightFrame}
 use Rattle.audit_facts.specs.Noted.{Noted, events, fresh_frames, givings, reuses, spoken_of}
 
@@ -14,7 +14,7 @@ use Rattle.audit_facts.specs.Noted.{Noted, events, fresh_frames, givings, reuses
 pub record Told : Type 0 where
   pub changes : Senders
   pub members : Speakers
-  pub rollover : RolloverKept
+  pub rollover : KeptRollovers
 
 -- after these fresh frames, right MKPDUs and events
 pub record Holds (frames : List RightFrame) (spoken : List Spoken) (events : List Event) (kept : Told) : Type 0 where
@@ -27,10 +27,10 @@ ToldStandFor h kept = Holds (fresh_frames h) (spoken_of h) (events h) kept
 
 -- ---- and what is marked
 
-pub record Kept : Type 0 where
+pub record KeptFacts : Type 0 where
   pub told : Told
-  pub marks : Marks
+  pub marks : KeptMarks
 
-pub record StandsFor (h : List Noted) (kept : Kept) : Type 0 where
+pub record StandsFor (h : List Noted) (kept : KeptFacts) : Type 0 where
   pub told : ToldStandFor h kept.told
   pub marks : MarksStandFor (givings h) (reuses h) kept.marks

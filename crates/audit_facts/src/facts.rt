@@ -36,9 +36,9 @@ pub struct AuditFacts {
 }
 
 impl Model for AuditFacts {
-    ghost use Rattle.audit_facts.specs.Standing.{Kept};
+    ghost use Rattle.audit_facts.specs.Standing.{KeptFacts};
 
-    ghost Value = { Kept };
+    ghost Value = { KeptFacts };
 
     ghost view = { λ f. record { told = f.told; marks = f.marks } };
 }

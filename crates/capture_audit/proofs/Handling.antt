@@ -7,7 +7,7 @@ use Rattle.audit_report.specs.declared.finding.Handed.{Handed}
 use Rattle.known_keys.specs.declared.fault.KeyError.{KeyError}
 use Rattle.known_keys.specs.declared.fault.KeyError.TheVariants.{TooManyKeys, Memory}
 use Rattle.known_keys.specs.History.{Entry, keys}
-use Rattle.known_keys.specs.Standing.{Kept, StandsFor as KnownStandsFor}
+use Rattle.known_keys.specs.Standing.{KeptKeys, StandsFor as KnownStandsFor}
 use Rattle.member_notes.specs.declared.mkpdu.RightMkpdu.{RightMkpdu}
 use Rattle.member_notes.specs.declared.novelty.MkpduNovelty.{MkpduNovelty}
 use Rattle.member_notes.specs.Mkpdus.{novelty_in}
@@ -48,7 +48,7 @@ unwraps groups group s gift first last gives =
     (it.0, it.1, gives it.0 it.1)
 
 pub overfull : (groups : List GroupKeys) (told : List Entry) (rights : List RightFrame) (spelled : List RightMkpdu)
-    (n nanos group : ℕ) (s : Spelled) (gift : Option Gift) (old : Auditor) (known : Kept) (e : KeyError)
+    (n nanos group : ℕ) (s : Spelled) (gift : Option Gift) (old : Auditor) (known : KeptKeys) (e : KeyError)
     → UnwrapsBy groups gift (kinds.Mka (Right group s))
     → HandsOver told n nanos group gift old.known known (Err e)
     → Handles groups told rights spelled n nanos (Right group s) old (record old { known = known }) (Err (end_of_key e))
@@ -56,7 +56,7 @@ overfull groups told rights spelled n nanos group s gift old known TooManyKeys i
   gift = gift;
   unwrapped = is;
   many = subst (λ ks. most_keys < length ks) (sym (mkpdu-keys n nanos group (shown_keys s.announcement.uses) gift told)) it.0;
-  same = ap (λ (k : Kept). record old { known = k }) it.1;
+  same = ap (λ (k : KeptKeys). record old { known = k }) it.1;
 }
 overfull groups told rights spelled n nanos group s gift old known Memory is it = tt
 

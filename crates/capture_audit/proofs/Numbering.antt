@@ -8,7 +8,7 @@ use Rattle.known_keys.specs.declared.fault.KeyError.{KeyError}
 use Rattle.known_keys.specs.declared.fault.KeyError.TheVariants.{TooManyKeys, Memory}
 use Rattle.known_keys.specs.History.{Entry, keys}
 use Rattle.known_keys.specs.Numbered.{number_in, most_keys}
-use Rattle.known_keys.specs.Standing.{Kept, StandsFor}
+use Rattle.known_keys.specs.Standing.{KeptKeys, StandsFor}
 use Rattle.capture_audit.specs.Before.{set_behind}
 use Rattle.capture_audit.specs.inside.Keeping.{AreTooMany, end_of_key, numbered_among}
 use Rattle.capture_audit.specs.inside.Viewing.{IsEndOfHand}
@@ -18,23 +18,23 @@ abbrev all_keys : List HandKey → List Secret
 all_keys hand = keys (set_behind [] hand)
 
 -- so many have their numbers
-pub record IsNumberedTo (hand : List HandKey) (count : ℕ) (known : Kept) (numbered : List (ℕ × HandKey)) : Type 0 where
+pub record IsNumberedTo (hand : List HandKey) (count : ℕ) (known : KeptKeys) (numbered : List (ℕ × HandKey)) : Type 0 where
   pub told : List Entry
   pub rest_is : set_behind told (drop count hand) ≡ set_behind [] hand
   pub stands : StandsFor told known
   pub few : length (keys told) ≤ most_keys
   pub numbers : numbered ++ numbered_among (all_keys hand) (drop count hand) ≡ numbered_among (all_keys hand) hand
 
-pub number-begin : (hand : List HandKey) (known : Kept) → StandsFor [] known → IsNumberedTo hand 0 known []
+pub number-begin : (hand : List HandKey) (known : KeptKeys) → StandsFor [] known → IsNumberedTo hand 0 known []
 number-begin hand known stands =
     record { told = []; rest_is = refl; stands = stands; few = omega arith; numbers = refl }
 
-module _ (hand : List HandKey) (i : ℕ) (key : HandKey) (known : Kept) (numbered : List (ℕ × HandKey))
+module _ (hand : List HandKey) (i : ℕ) (key : HandKey) (known : KeptKeys) (numbered : List (ℕ × HandKey))
     (e : drop i hand ≡ key ∷ drop (i + 1) hand) (was : IsNumberedTo hand i known numbered) where
   behind : set_behind (told_next was.told key) (drop (i + 1) hand) ≡ set_behind [] hand
   behind = ap (λ (ks : List HandKey). set_behind was.told ks) (sym e) ∙ was.rest_is
 
-  pub number-more : (number : ℕ) (new : Kept) (then : List (ℕ × HandKey)) → StandsFor (told_next was.told key) new
+  pub number-more : (number : ℕ) (new : KeptKeys) (then : List (ℕ × HandKey)) → StandsFor (told_next was.told key) new
       → number_in (keys (told_next was.told key)) key.sak ≡ Some number
       → length (keys (told_next was.told key)) ≤ most_keys → then ≡ numbered ++ (number, key) ∷ []
       → IsNumberedTo hand (i + 1) new then
@@ -61,7 +61,7 @@ module _ (hand : List HandKey) (i : ℕ) (key : HandKey) (known : Kept) (numbere
       subst (λ (es : List Entry). AreTooMany es) behind (many-stay (told_next was.told key) (drop (i + 1) hand) (many refl))
   number-stop Memory many = tt
 
-pub number-end : (hand : List HandKey) (i : ℕ) (known : Kept) (numbered : List (ℕ × HandKey)) → drop i hand ≡ []
+pub number-end : (hand : List HandKey) (i : ℕ) (known : KeptKeys) (numbered : List (ℕ × HandKey)) → drop i hand ≡ []
     → IsNumberedTo hand i known numbered → numbered ≡ numbered_among (all_keys hand) hand
 number-end hand i known numbered e was =
     sym (append-nil numbered)

@@ -15,7 +15,7 @@ use Rattle.known_keys.specs.declared.fault.KeyError.{KeyError}
 use Rattle.known_keys.specs.declared.fault.KeyError.TheVariants.{TooManyKeys, Memory}
 use Rattle.known_keys.specs.History.{Entry, Set, keys}
 use Rattle.known_keys.specs.Numbered.{number_from, number_in, most_keys}
-use Rattle.known_keys.specs.Standing.{Kept, StandsFor}
+use Rattle.known_keys.specs.Standing.{KeptKeys, StandsFor}
 use Rattle.known_keys.proofs.Public.{front-keys}
 use Rattle.capture_audit.specs.Before.{set_behind}
 use Rattle.capture_audit.specs.inside.Keeping.{AreSetUpTo, AreTooMany, SetsKeys, end_of_key, numbered_among}
@@ -72,7 +72,7 @@ many-stay before rest many =
 abbrev all_keys : List HandKey → List Secret
 all_keys hand = keys (set_behind [] hand)
 
-pub sets-begin : (hand : List HandKey) (known : Kept) (text : List ℕ) → StandsFor [] known
+pub sets-begin : (hand : List HandKey) (known : KeptKeys) (text : List ℕ) → StandsFor [] known
     → AreSetUpTo hand 0 known text text
 sets-begin hand known text stands = record {
   told = [];
@@ -84,7 +84,7 @@ sets-begin hand known text stands = record {
   numbers = refl;
 }
 
-pub sets-more : (hand : List HandKey) (i : ℕ) (key : HandKey) (number : ℕ) (known new : Kept) (text text_then text_new : List ℕ)
+pub sets-more : (hand : List HandKey) (i : ℕ) (key : HandKey) (number : ℕ) (known new : KeptKeys) (text text_then text_new : List ℕ)
     → drop i hand ≡ key ∷ drop (i + 1) hand → (up : AreSetUpTo hand i known text text_then)
     → StandsFor (told_next up.told key) new → number_in (keys (told_next up.told key)) key.sak ≡ Some number
     → length (keys (told_next up.told key)) ≤ most_keys
@@ -113,7 +113,7 @@ sets-more hand i key number known new text text_then text_new e up stands is few
           ∙ up.numbers;
     }
 
-pub sets-stop : (hand : List HandKey) (i : ℕ) (key : HandKey) (known new : Kept) (text text_then text_new : List ℕ) (e : KeyError)
+pub sets-stop : (hand : List HandKey) (i : ℕ) (key : HandKey) (known new : KeptKeys) (text text_then text_new : List ℕ) (e : KeyError)
     → drop i hand ≡ key ∷ drop (i + 1) hand → (up : AreSetUpTo hand i known text text_then)
     → (e ≡ TooManyKeys → AreTooMany (told_next up.told key))
     → SetsKeys hand new text text_new (Err (end_of_key e))
@@ -124,7 +124,7 @@ sets-stop hand i key known new text text_then text_new TooManyKeys is up many =
     subst (λ (es : List Entry). AreTooMany es) behind (many-stay (told_next up.told key) rest (many refl))
 sets-stop hand i key known new text text_then text_new Memory is up many = tt
 
-pub sets-end : (hand : List HandKey) (i : ℕ) (known : Kept) (text text_then : List ℕ) → drop i hand ≡ []
+pub sets-end : (hand : List HandKey) (i : ℕ) (known : KeptKeys) (text text_then : List ℕ) → drop i hand ≡ []
     → AreSetUpTo hand i known text text_then → SetsKeys hand known text text_then (Ok tt)
 sets-end hand i known text text_then e up =
     let told : up.told ≡ set_behind [] hand = ap (λ (ks : List HandKey). set_behind up.told ks) (sym e) ∙ up.rest_is in (

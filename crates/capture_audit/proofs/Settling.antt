@@ -3,7 +3,7 @@ use Rattle.std.proofs.Common.{◌≡◌, ◌∙◌, ◌<◌, ◌≤◌, ℕ, Boo
 use Rattle.std.specs.Prelude.{Option, option_map, Result}
 use Rattle.std.proofs.lemmas.List.Elements.{All-cons}
 use Rattle.audit_facts.specs.Noted.{IsNext, Noted, noted_of}
-use Rattle.audit_facts.specs.Standing.{Kept as FactsKept, StandsFor as FactsStandFor}
+use Rattle.audit_facts.specs.Standing.{KeptFacts, StandsFor as FactsStandFor}
 use Rattle.audit_report.specs.Packets.{begun_words}
 use Rattle.audit_report.specs.Tallies.{tally_of}
 use Rattle.audit_report.specs.declared.finding.Finding.{Finding}
@@ -108,7 +108,7 @@ module _ (ring : Ring) (before : List Unwrapped) (seen : Seen) where
       (is-next ring before (with_gift found.gift))
 
   pub settled : (it : Finding) (head : PacketHead) (kind : Kind) (newest : Option ℕ) (old new : Auditor)
-      (facts : FactsKept) (tally : Tally) → Keeps ring before old
+      (facts : KeptFacts) (tally : Tally) → Keeps ring before old
       → IsFindable ring before seen it new → IsFound ring before seen head kind newest
       → FactsStandFor (noted_of it head.nanos kind ∷ noted ring before) facts
       → tally ≡ tally_of (record {

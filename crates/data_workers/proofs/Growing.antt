@@ -17,7 +17,7 @@ use Rattle.packet_claims.specs.Claims.{Stays, IsClaim, IsNoKey, IsExhausted}
 use Rattle.data_workers.specs.declared.entry.Entry.{Entry}
 use Rattle.data_workers.specs.declared.entry.Entry.TheVariants.{Taken, Refused}
 use Rattle.data_workers.specs.declared.sender.Sender.{Sender}
-use Rattle.data_workers.specs.Logs.{claim_of, IsTaken, IsEntry}
+use Rattle.data_workers.specs.Logs.{claim_of, IsProtectedBy, IsEntry}
 
 -- what a view has, a later one has too
 pub record Grows (v w : SeatView) : Type 0 where
@@ -76,7 +76,7 @@ module _ (s : Sender) (v w : SeatView) (g : Grows v w) where
   start_on : (P : Start → Type 0) → P v.start → P w.start
   start_on P p = subst P (sym g.start) p
 
-  taken_on : (p : Protected) → IsTaken v s p → IsTaken w s p
+  taken_on : (p : Protected) → IsProtectedBy v s p → IsProtectedBy w s p
   taken_on p t = record {
     of_station = t.of_station;
     claim = subst (λ (n : ℕ). In (claim_of n p) w.additions) (sym g.number) (g.additions _ t.claim);

@@ -16,7 +16,7 @@ use Rattle.data_workers.specs.declared.entry.Entry.{Entry}
 use Rattle.data_workers.specs.declared.entry.Entry.TheVariants.{Taken, Refused}
 use Rattle.data_workers.specs.declared.sender.Sender.{Sender}
 use Rattle.data_workers.specs.Entries.{taken_by, entry_of, epoch_in}
-use Rattle.data_workers.specs.Logs.{claim_of, claims_after, notes_after, IsTaken, IsEntry, Precedes, InOrder, IsLog}
+use Rattle.data_workers.specs.Logs.{claim_of, claims_after, notes_after, IsProtectedBy, IsEntry, Precedes, InOrder, IsLog}
 use Rattle.data_workers.proofs.Growing.{Grows, claim_grows, no_key_grows, exhausted_grows, entry_on}
 
 -- Of lists
@@ -76,7 +76,7 @@ module _ (s : Sender) (v w : SeatView) where
   after_refusal why n (Refused station (NoKey after)) t = (n.notes after t.1.0, tt)
   after_refusal why n (Refused station (Exhausted epoch)) t = (n.loaded _ t.1.1.1, tt)
 
-  is_taken : (k : Claim) → IsClaim v w k.an k.epoch k.pn k.card → IsTaken w s (taken_by s k)
+  is_taken : (k : Claim) → IsClaim v w k.an k.epoch k.pn k.card → IsProtectedBy w s (taken_by s k)
   is_taken k c = let p = taken_by s k in record {
     of_station = refl;
     claim = subst (λ (n : ℕ). In (claim_of n p) w.additions) (sym c.stays.number) (subst (In (claim_of v.number p)) (sym c.additions) (inl refl));

@@ -16,7 +16,7 @@ use Rattle.data_workers.specs.declared.entry.Entry.{Entry}
 use Rattle.data_workers.specs.declared.entry.Entry.TheVariants.{Taken, Refused}
 use Rattle.data_workers.specs.declared.sender.Sender.{Sender}
 use Rattle.data_workers.specs.Entries.{frame_under}
-use Rattle.data_workers.specs.Logs.{claim_of, claims_after, IsTaken, IsEntry, IsLog}
+use Rattle.data_workers.specs.Logs.{claim_of, claims_after, IsProtectedBy, IsEntry, IsLog}
 use Rattle.data_workers.specs.Told.{IsToldFrame, IsToldEntry, times_taken}
 use Rattle.data_workers.proofs.NextEntry.{all_from}
 
@@ -24,7 +24,7 @@ module _ (s : Sender) (w : SeatView) (c : ControlView) (learned : Learned (told 
   knows_told : (epoch : ℕ) (card : Card) → Knows w.reads epoch card → Knows (told c w).told_reads epoch card
   knows_told epoch card k = let more = λ (r : ℕ × ℕ) (i : In r w.reads). in_left r w.reads c.told_reads i in (k.0, k.1, k.2, k.3, k.4, more _ k.5, more _ k.6, more _ k.7, more _ k.8, more _ k.9, k.10)
 
-  told_frame : (p : Protected) → IsTaken w s p → IsToldFrame (told c w) s p
+  told_frame : (p : Protected) → IsProtectedBy w s p → IsToldFrame (told c w) s p
   told_frame p t = let a = claim_of w.number p in let x = learned.additions a (in_left a w.additions c.told t.claim) in let z = x.claim refl in record {
     of_station = t.of_station;
     pointed = x.pointed;

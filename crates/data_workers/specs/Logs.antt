@@ -42,7 +42,7 @@ notes_after (Refused station (Exhausted epoch) ∷ log) before = notes_after log
 -- frame, protected under the card that the seat read of that epoch. The epoch is above the one
 -- that was pointed at last when the seat was made, or it is that one and was present then; epoch
 -- and number are not below those that the seat was given
-pub record IsTaken (w : SeatView) (s : Sender) (p : Protected) : Type 0 where
+pub record IsProtectedBy (w : SeatView) (s : Sender) (p : Protected) : Type 0 where
   pub of_station : p.station ≡ s.station
   pub claim : In (claim_of w.number p) w.additions
   pub range : (1 ≤ p.pn) × (p.pn < 2 ^ 32)
@@ -64,7 +64,7 @@ IsCause w (Exhausted epoch) =
     × (w.start.last ≤ epoch)
 
 abbrev pub IsEntry : SeatView → Sender → Entry → Type 0
-IsEntry w s (Taken p) = IsTaken w s p
+IsEntry w s (Taken p) = IsProtectedBy w s p
 IsEntry w s (Refused station why) = (station ≡ s.station) × IsCause w why
 
 -- Their order

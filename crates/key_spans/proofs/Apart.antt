@@ -14,7 +14,7 @@ use Rattle.key_spans.specs.declared.span.Turn.TheVariants.{Ends, Begins, Relieve
 use Rattle.key_spans.specs.declared.span.Why.TheVariants.{Replaced}
 use Rattle.key_spans.specs.Spans.{clock_after, lived, opened, spans, spans_from, start, touched, turn_by, turned}
 use Rattle.key_spans.specs.inside.Taking.{HasEnded}
-use Rattle.key_spans.specs.Times.{EndsBy}
+use Rattle.key_spans.specs.Times.{HasEndedAt}
 use Rattle.key_spans.proofs.OneMore.{by_sum, ends, opens, stays}
 
 -- ---- all spans of a list
@@ -79,10 +79,10 @@ over-touched at (Some t) x over = go x.ended refl
 over-later : (at next : ℕ) (x : Span) → at ≤ next → IsOver at x → IsOver next x
 over-later at next x less over e is = let had = over e is in omega (arith, less, had)
 
-ends-by : (at : ℕ) (x : Span) → HasEnded x → IsOver at x → EndsBy at x
+ends-by : (at : ℕ) (x : Span) → HasEnded x → IsOver at x → HasEndedAt at x
 ends-by at x ended over = go x.ended refl ended
   where
-    go : (o : Option End) → x.ended ≡ o → IsTrue (is_some o) → EndsBy at x
+    go : (o : Option End) → x.ended ≡ o → IsTrue (is_some o) → HasEndedAt at x
     go None is there = absurd (cc there)
     go (Some e) is there = record { end = e; ended = is; before = over e is }
 
@@ -120,7 +120,7 @@ module _ (s : ℕ) (an : AssociationNumber) where
       ∙ installed-touched at.ticks (turn_by s an f) x
 
   abbrev After : Span → Span → Type 0
-  After x y = EndsBy y.installed x
+  After x y = HasEndedAt y.installed x
 
   abbrev Tail : Clock → Fact → List Fact → Span → Type 0
   Tail at f facts x = Every (After (lived s an (clock_after at f) facts (touched at.ticks (turn_by s an f) x)))
@@ -143,13 +143,13 @@ module _ (s : ℕ) (an : AssociationNumber) where
       go-one one =
           let t = touched at.ticks (turn_by s an f) x in
           let ended : HasEnded t = subst (λ (o : Option Turn). HasEnded (touched at.ticks o x)) (sym one.2) (ends at.ticks Replaced x) in
-          let by : EndsBy at.ticks t = ends-by at.ticks t ended (over-touched at.ticks (turn_by s an f) x over) in
-          let lived-by : EndsBy at.ticks (lived s an (clock_after at f) facts t) =
-          subst (EndsBy at.ticks) (sym (lived-ended (clock_after at f) facts t ended)) by in
+          let by : HasEndedAt at.ticks t = ends-by at.ticks t ended (over-touched at.ticks (turn_by s an f) x over) in
+          let lived-by : HasEndedAt at.ticks (lived s an (clock_after at f) facts t) =
+          subst (HasEndedAt at.ticks) (sym (lived-ended (clock_after at f) facts t ended)) by in
           let starts : (lived s an (clock_after at f) facts one.0).installed ≡ at.ticks =
           installed-lived (clock_after at f) facts one.0 ∙ one.3 in
           subst (Whole at f facts x) (sym one.1)
-          (subst (λ (n : ℕ). EndsBy n (lived s an (clock_after at f) facts t)) (sym starts) lived-by, tail)
+          (subst (λ (n : ℕ). HasEndedAt n (lived s an (clock_after at f) facts t)) (sym starts) lived-by, tail)
 
   pub apart : (at : Clock) (facts : List Fact) (x : Span) → at.ticks ≤ most → IsOver at.ticks x
       → Every (After (lived s an at facts x)) (spans_from s an at facts)
@@ -194,11 +194,11 @@ module _ (s : ℕ) (an : AssociationNumber) where
       first-apart at f facts few (all-apart (clock_after at f) facts (rises at f few).1)
 
   apart-at : (before between behind : List Span) (x y : Span)
-      → AreApart (before ++ x ∷ (between ++ y ∷ behind)) → EndsBy y.installed x
+      → AreApart (before ++ x ∷ (between ++ y ∷ behind)) → HasEndedAt y.installed x
   apart-at [] between behind x y all = every-at (After x) between behind y all.0
   apart-at (z ∷ before) between behind x y all = apart-at before between behind x y all.1
 
   pub no-overlap : (facts : List Fact) (before between behind : List Span) (x y : Span)
-      → spans s an facts ≡ before ++ x ∷ (between ++ y ∷ behind) → EndsBy y.installed x
+      → spans s an facts ≡ before ++ x ∷ (between ++ y ∷ behind) → HasEndedAt y.installed x
   no-overlap facts before between behind x y is =
       apart-at before between behind x y (subst AreApart is (all-apart start facts (omega arith)))

@@ -13,7 +13,7 @@ use Rattle.sak_exchange.specs.declared.offer.Offer.{Offer}
 use Rattle.sak_exchange.specs.declared.held_key.Key.{Key}
 use Rattle.sak_exchange.specs.Histories.{Keying, clock, begun_at, has_begun, install_count}
 use Rattle.sak_exchange.specs.Histories as keyings
-use Rattle.sak_exchange.specs.Held.{Kept, received, ends, held, shown, latest, old, transmitting, is_latest, is_retire_time_ago}
+use Rattle.sak_exchange.specs.Held.{KeepsRules, received, ends, held, shown, latest, old, transmitting, is_latest, is_retire_time_ago}
 use Rattle.sak_exchange.specs.Beginning.{Beginning, retired}
 use Rattle.sak_exchange.specs.Lives.{apart}
 use Rattle.sak_exchange.specs.Outcomes.{beginning}
@@ -61,7 +61,7 @@ abbrev pub AreApart : Option Key → Option Key → Type 0
 AreApart (Some l) (Some o) = same_an l.an o.an ≡ false
 AreApart _ _ = Unit {0}
 
-pub keys-apart : (base : ℕ) (h : List Keying) → Kept base h → AreApart (latest h) (old h)
+pub keys-apart : (base : ℕ) (h : List Keying) → KeepsRules base h → AreApart (latest h) (old h)
 keys-apart base h kept = go (latest h) (old h) refl refl
   where
     go : (l o : Option Key) → latest h ≡ l → old h ≡ o → AreApart l o
@@ -87,7 +87,7 @@ held-told an h = go (latest h) (old h) (begun_latest h)
         by_test (same_an l.an an) (λ y. rw y refl)
         (λ y. by_test (same_an o.an an) (λ z. rw (y, z) refl) (λ z. rw (y, z) refl))
 
-pub transmits-told : (an : AssociationNumber) (base : ℕ) (h : List Keying) → Kept base h
+pub transmits-told : (an : AssociationNumber) (base : ℕ) (h : List Keying) → KeepsRules base h
     → map name_of (filter sends (option_to_list (told_in an h))) ≡ named (under an (transmitting h))
 transmits-told an base h kept =
     go (latest h) (old h) (begun_latest h) (keys-apart base h kept)
@@ -156,7 +156,7 @@ module _ (an : AssociationNumber) where
 
   -- ---- a tick
 
-  none-held : (base : ℕ) (h : List Keying) → Kept base h → cond (has_an (received h)) None (told_in an h) ≡ None
+  none-held : (base : ℕ) (h : List Keying) → KeepsRules base h → cond (has_an (received h)) None (told_in an h) ≡ None
   none-held base h kept =
       elim (shape base h kept) [
         | none r ↦ let keys = latest-none h r in rw (keys.0, keys.1, r) refl
@@ -168,7 +168,7 @@ module _ (an : AssociationNumber) where
             (λ y. by_test (same_an o.an an) (λ z. rw (y, z) refl) (λ z. rw (y, z) refl)))
       ]
 
-  goes-dropped : (base : ℕ) (h : List Keying) → Kept base h
+  goes-dropped : (base : ℕ) (h : List Keying) → KeepsRules base h
       → Goes h (map (λ k. changes.Dropped (held h k)) (received h)) (keyings.ticked false ∷ h)
   goes-dropped base h kept =
       dropped-told h (received h) (told_in an h) ∙ none-held base h kept
@@ -188,7 +188,7 @@ module _ (an : AssociationNumber) where
   abbrev is_over : List Keying → Bool
   is_over h = is_latest h (λ k. is_retire_time_ago (clock h + 1) (begun_at h k.epoch))
 
-  goes-retired : (base : ℕ) (h : List Keying) → Kept base h
+  goes-retired : (base : ℕ) (h : List Keying) → KeepsRules base h
       → Goes h (option_to_list (option_map (λ k. changes.Retired (held h k)) (retired h))) (keyings.ticked true ∷ h)
   goes-retired base h kept =
       go (is_over h) ∙ (let keys = keys-ticked base h kept in rw (keys.latest, keys.old) refl)
@@ -200,7 +200,7 @@ module _ (an : AssociationNumber) where
       go true = retired-told h (latest h) (old h) (begun_latest h) (keys-apart base h kept)
       go false = refl
 
-  pub goes-ended : (base : ℕ) (h : List Keying) (server : Option Mi) → Kept base h
+  pub goes-ended : (base : ℕ) (h : List Keying) (server : Option Mi) → KeepsRules base h
       → Goes h (ended h server) (keyings.ticked (is_some server) ∷ h)
   goes-ended base h None kept = goes-dropped base h kept
   goes-ended base h (Some server) kept = goes-retired base h kept
@@ -215,7 +215,7 @@ module _ (an : AssociationNumber) where
       by_test (same_an k.an an) (λ y. rw y refl)
       (λ y. by_test (same_an o.an an) (λ z. rw (y, z) refl) (λ z. rw (y, z) refl))
 
-  goes-began : (base : ℕ) (h : List Keying) (b : Beginning) → Kept base h → latest h ≡ Some b.key
+  goes-began : (base : ℕ) (h : List Keying) (b : Beginning) → KeepsRules base h → latest h ≡ Some b.key
       → has_begun h b.key.epoch ≡ false
       → Goes h (beginning h (Some b)).changes (keyings.began b.key.epoch ∷ h)
   goes-began base h b kept first unbegun =
@@ -225,7 +225,7 @@ module _ (an : AssociationNumber) where
       ∙ (let keys = keys-began base h b.key.epoch kept in
       let same = eq-eqb b.key.epoch b.key.epoch refl in rw (keys.latest, keys.old, first, same) refl)
 
-  pub goes-begun : (base : ℕ) (h : List Keying) (b : Option Beginning) → Kept base h
+  pub goes-begun : (base : ℕ) (h : List Keying) (b : Option Beginning) → KeepsRules base h
       → ((c : Beginning) → b ≡ Some c → (latest h ≡ Some c.key) × (has_begun h c.key.epoch ≡ false))
       → Goes h (beginning h b).changes (with_began b h)
   goes-begun base h None kept is = refl
@@ -237,7 +237,7 @@ module _ (an : AssociationNumber) where
   current h = cond (begun_latest h) (latest h) (old h)
 
   unbegun-next : (base : ℕ) (h : List Keying) (r : Option (List Mi)) (k : Key)
-      → Kept base (keyings.installed r k ∷ h) → has_begun h k.epoch ≡ false
+      → KeepsRules base (keyings.installed r k ∷ h) → has_begun h k.epoch ≡ false
   unbegun-next base h r k kept =
       by_test (has_begun h k.epoch)
       (λ t. let most = begun-upto base h k.epoch kept.2 t in let next = kept.0 in absurd (omega arith))
@@ -245,7 +245,7 @@ module _ (an : AssociationNumber) where
 
   -- what an install under another number leaves
   module _ (base : ℕ) (h : List Keying) (r : Option (List Mi)) (k : Key)
-      (kept : Kept base (keyings.installed r k ∷ h)) where
+      (kept : KeepsRules base (keyings.installed r k ∷ h)) where
     abbrev Left : Type 0
     Left = cond (has_an (filter (ends (keyings.installed r k) h) (received h))) None (told_in an h)
         ≡ told_key an (apart k.an (current h)) true false None
@@ -312,12 +312,12 @@ module _ (an : AssociationNumber) where
         installed-told = by_test (same_an k.an an) (λ y. rw y refl) (λ y. rw y left-under)
 
   pub goes-key : (base : ℕ) (h : List Keying) (r : Option (List Mi)) (key : Option Key)
-      → Kept base (with_key r key h) → Goes h (install_changes h r key) (with_key r key h)
+      → KeepsRules base (with_key r key h) → Goes h (install_changes h r key) (with_key r key h)
   goes-key base h r None kept = refl
   goes-key base h r (Some k) kept = goes-installed base h r k kept
 
   pub goes-taken : (base : ℕ) (h : List Keying) (offer : Option Offer) (answer : Option (Result Key Why))
-      → Kept base (with_key None (key_taken answer) h) → ((offer ≡ None) → answer ≡ None)
+      → KeepsRules base (with_key None (key_taken answer) h) → ((offer ≡ None) → answer ≡ None)
       → Goes h (take_changes h offer answer) (with_key None (key_taken answer) h)
   goes-taken base h None None kept both = refl
   goes-taken base h None (Some a) kept both = let e = both refl in absurd (cc e)

@@ -9,15 +9,15 @@ use Rattle.lan_base.specs.declared.association_number.AssociationNumber.TheVaria
 use Rattle.lan_core.specs.Run.{place}
 use Rattle.lan_core.specs.declared.fact.Fact.{Fact}
 use Rattle.lan_core.specs.declared.fact.Fact.TheVariants as shows
-use Rattle.tick_columns.specs.Columns.{IsThinned, Kept as Columns, no_columns}
+use Rattle.tick_columns.specs.Columns.{IsThinned, Columns, no_columns}
 use Rattle.key_spans.specs.declared.clock.Clock.{Clock}
 use Rattle.key_spans.specs.declared.span.Span.{Span}
 use Rattle.key_spans.specs.declared.span.Turn.{Turn}
 use Rattle.key_spans.specs.declared.span.Turn.TheVariants.{Ends, Begins, Relieves}
 use Rattle.key_spans.specs.declared.span.Why.TheVariants.{Replaced, Retired, Dropped, Restarted}
 use Rattle.key_spans.specs.Spans.{clock_after, opened, touched, turn_by}
-use Rattle.key_spans.specs.Standing.{Kept, Rows, installed_at, row_at, row_in, row_of}
-use Rattle.key_spans.specs.inside.Taking.{AreBy, IsGrownRow, IsKept, IsKeptRow, IsLaneAfter, IsLaneKept, IsOnly, IsPlaced, IsReached, IsRowAfter, IsTaken, IsTakenAt, IsTouched, TakesAt, installs}
+use Rattle.key_spans.specs.Standing.{KeptSpans, Rows, installed_at, row_at, row_in, row_of}
+use Rattle.key_spans.specs.inside.Taking.{AreBy, IsGrownRow, IsKept, IsKeptRow, IsLaneAfter, IsLaneKept, IsOnly, IsPlaced, IsReached, IsRowAfter, IsFactTaken, IsTakenAt, IsTouched, TakesAt, installs}
 use Rattle.key_spans.proofs.Rows.{same-place}
 
 -- ---- one row of four
@@ -198,7 +198,7 @@ nothing-after s an at fact old new nothing same all by is =
     (same-row at all old is)))
 
 -- the rows where a fact was taken by those of its station
-rows-here : (fact : Fact) (old mid new : Kept) (rows : Rows) → IsReached old mid
+rows-here : (fact : Fact) (old mid new : KeptSpans) (rows : Rows) → IsReached old mid
     → slice_get mid.lanes (place fact) ≡ Some rows → IsTakenAt fact mid new rows
     → (s : ℕ) (an : AssociationNumber)
     → IsRowAfter s an old.clock.ticks fact (row_at old.lanes s an) (row_at new.lanes s an)
@@ -245,25 +245,25 @@ rows-nowhere fact at lanes none nothing s an = go s (same-place s (place fact))
     go s (inr apart) =
         nothing-after s an at fact (row_at lanes s an) (row_at lanes s an) (elsewhere s an at fact apart) refl
 
-rows-taken : (fact : Fact) (old mid new : Kept) (o : Option Rows) → slice_get mid.lanes (place fact) ≡ o
+rows-taken : (fact : Fact) (old mid new : KeptSpans) (o : Option Rows) → slice_get mid.lanes (place fact) ≡ o
     → IsReached old mid → IsPlaced fact mid → TakesAt fact mid new o (Ok tt)
     → (s : ℕ) (an : AssociationNumber)
     → IsRowAfter s an old.clock.ticks fact (row_at old.lanes s an) (row_at new.lanes s an)
 rows-taken fact old mid new None found reached placed taken s an =
     subst (λ (k : Columns Span). IsRowAfter s an old.clock.ticks fact k (row_at new.lanes s an)) (reached.rows_are s an)
-    (subst (λ (k : Kept). IsRowAfter s an old.clock.ticks fact (row_at mid.lanes s an) (row_at k.lanes s an)) (sym taken.0)
+    (subst (λ (k : KeptSpans). IsRowAfter s an old.clock.ticks fact (row_at mid.lanes s an) (row_at k.lanes s an)) (sym taken.0)
     (rows-nowhere fact old.clock.ticks mid.lanes found (placed found) s an))
 rows-taken fact old mid new (Some rows) found reached placed taken s an =
     rows-here fact old mid new rows reached found taken s an
 
-clock-taken : (fact : Fact) (mid new : Kept) (o : Option Rows) → TakesAt fact mid new o (Ok tt)
+clock-taken : (fact : Fact) (mid new : KeptSpans) (o : Option Rows) → TakesAt fact mid new o (Ok tt)
     → new.clock ≡ mid.clock
-clock-taken fact mid new None taken = ap (λ (k : Kept). k.clock) taken.0
+clock-taken fact mid new None taken = ap (λ (k : KeptSpans). k.clock) taken.0
 clock-taken fact mid new (Some rows) taken = taken.clock_is
 
-pub taken-whole : (fact : Fact) (old mid next new : Kept) → IsReached old mid → IsPlaced fact mid
+pub taken-whole : (fact : Fact) (old mid next new : KeptSpans) → IsReached old mid → IsPlaced fact mid
     → TakesAt fact mid next (slice_get mid.lanes (place fact)) (Ok tt)
-    → new.clock ≡ clock_after next.clock fact → new.lanes ≡ next.lanes → IsTaken fact old new
+    → new.clock ≡ clock_after next.clock fact → new.lanes ≡ next.lanes → IsFactTaken fact old new
 taken-whole fact old mid next new reached placed taken clock_is same = record {
   clock_is = clock_is ∙ ap (λ (at : Clock). clock_after at fact)
       (clock-taken fact mid next (slice_get mid.lanes (place fact)) taken ∙ reached.clock_is);
@@ -274,14 +274,14 @@ taken-whole fact old mid next new reached placed taken clock_is same = record {
 
 -- ---- where there was no memory
 
-pub reached-kept : (old new : Kept) → IsReached old new → IsKept old new
+pub reached-kept : (old new : KeptSpans) → IsReached old new → IsKept old new
 reached-kept old new reached = record {
   clock_is = reached.clock_is;
   rows_are = λ s an all by is.
       subst (λ (k : Columns Span). IsThinned installed_at all k) (sym (reached.rows_are s an)) is;
 }
 
-pub failed-kept : (fact : Fact) (old mid new : Kept) (o : Option Rows) (error : AllocError) → IsReached old mid
+pub failed-kept : (fact : Fact) (old mid new : KeptSpans) (o : Option Rows) (error : AllocError) → IsReached old mid
     → TakesAt fact mid new o (Err error) → IsKept old new
 failed-kept fact old mid new None error reached taken = absurd (cc taken.1)
 failed-kept fact old mid new (Some rows) error reached kept = record {

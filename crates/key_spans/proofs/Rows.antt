@@ -8,7 +8,7 @@ use Rattle.std.specs.declared.alloc.AllocError.{AllocError}
 use Rattle.lan_core.specs.declared.fact.Fact.{Fact}
 use Rattle.lan_core.specs.Run.{place}
 use Rattle.key_spans.specs.declared.clock.Clock.{Clock}
-use Rattle.key_spans.specs.Standing.{Kept, Rows, no_rows, row_at, row_in, row_of}
+use Rattle.key_spans.specs.Standing.{KeptSpans, Rows, no_rows, row_at, row_in, row_of}
 use Rattle.key_spans.specs.inside.Taking.{IsKeptRow, IsLaneAfter, IsLaneKept, TakesAt}
 
 -- rows of nothing behind others change no row
@@ -52,7 +52,7 @@ same-place t s = go (t == s) refl
     go false is = inr (λ e. grind (arith, is, e))
 
 -- rows at a place become others
-pub taken-at : (fact : Fact) (old : Kept) (clock : Clock) (s : ℕ) (xs : List Rows) (given new : Rows)
+pub taken-at : (fact : Fact) (old : KeptSpans) (clock : Clock) (s : ℕ) (xs : List Rows) (given new : Rows)
     (result : Result (Unit {0}) AllocError) → record { clock = clock; lanes = xs } ≡ old → s ≡ place fact
     → slice_get xs s ≡ Some given → OnOk result (IsLaneAfter (place fact) clock.ticks fact given new)
     → OnErr result (IsLaneKept clock.ticks given new)

@@ -12,7 +12,7 @@ use Rattle.gcm_frames.specs.Tags.{is_sec}
 use Rattle.sak_exchange.specs.declared.change.Change.{Change}
 use Rattle.sak_exchange.specs.declared.change.Change.TheVariants as changes
 use Rattle.sak_exchange.specs.declared.held_key.Key.{Key}
-use Rattle.sak_exchange.specs.Held.{Kept, latest, old}
+use Rattle.sak_exchange.specs.Held.{KeepsRules, latest, old}
 use Rattle.sak_exchange.proofs.Public.{by_test, by_option}
 use Rattle.mka_station.specs.declared.reaction.Reaction.{Reaction}
 use Rattle.mka_station.specs.declared.verdict.Verdict.{Verdict}
@@ -220,7 +220,7 @@ module _ (settings : Settings) (t : ℕ) (x : Happening) (r : Run) where
 
 -- the keys of each life keep the rules
 abbrev AreKept : Settings → ℕ → Run → Type 0
-AreKept settings t r = (l : Life) → life settings t r ≡ Some l → Kept l.member.base (keys_in l)
+AreKept settings t r = (l : Life) → life settings t r ≡ Some l → KeepsRules l.member.base (keys_in l)
 
 module _ (settings : Settings) (users : List UserFrame) (x : Happening) (r : Run) (t : ℕ) (an : AssociationNumber) where
   -- what is told after the event is what its station holds then
@@ -328,17 +328,17 @@ kept-part : (settings : Settings) (t : ℕ) (x : Happening) (r : Run)
 kept-part settings t x r (kinds.same after none) kept l living = kept l (sym after ∙ living)
 kept-part settings t x r (kinds.ticks next m ev before after) kept l living =
     let it : lived m (turn_at_tick settings t r m next (sak_in x.facts)) ≡ l = let e = sym after ∙ living in cc e in
-    subst (λ w. Kept w.member.base (keys_in w)) it
+    subst (λ w. KeepsRules w.member.base (keys_in w)) it
     (kept-turn m.member.base (keys_in m) _
     (tick-is_turn m.member (seen_at settings t r m next) (sak_in x.facts) m.past) (kept m before))
 kept-part settings t x r (kinds.hears number octets m a came before plain right after) kept l living =
     let it : lived m (hear_turn m.member a m.past) ≡ l = let e = sym after ∙ living in cc e in
-    subst (λ w. Kept w.member.base (keys_in w)) it
+    subst (λ w. KeepsRules w.member.base (keys_in w)) it
     (kept-turn m.member.base (keys_in m) _ (hear-is_turn m.member a m.past) (kept m before))
 kept-part settings t x r (kinds.born m new birth after shown) kept l living =
     let it : m ≡ l = let e = sym after ∙ living in cc e in
-    subst (λ w. Kept w.member.base (keys_in w)) it
-    (subst (Kept m.member.base) (sym (ap (keys_of m.member) new ∙ keys-new m.member)) tt)
+    subst (λ w. KeepsRules w.member.base (keys_in w)) it
+    (subst (KeepsRules m.member.base) (sym (ap (keys_of m.member) new ∙ keys-new m.member)) tt)
 
 none-lives : (settings : Settings) (t : ℕ) → life settings t [] ≡ None
 unfolding life

@@ -11,9 +11,9 @@ use Rattle.key_spans.specs.declared.span.End.{End}
 use Rattle.key_spans.specs.declared.span.Turn.TheVariants.{Ends}
 use Rattle.key_spans.specs.declared.span.Why.TheVariants.{Replaced}
 use Rattle.key_spans.specs.Spans.{clock, clock_after, lived, opened, spans, spans_from, start, touched, turn_by}
-use Rattle.key_spans.specs.Standing.{Kept, StandsFor, installed_at, row_at}
-use Rattle.key_spans.specs.Times.{EndsBy}
-use Rattle.key_spans.specs.inside.Taking.{AllEnded, AreBy, IsKept, IsTaken}
+use Rattle.key_spans.specs.Standing.{KeptSpans, StandsFor, installed_at, row_at}
+use Rattle.key_spans.specs.Times.{HasEndedAt}
+use Rattle.key_spans.specs.inside.Taking.{AllEnded, AreBy, IsKept, IsFactTaken}
 use Rattle.key_spans.proofs.OneMore.{by_sum, clock-more, opens, spans-more}
 use Rattle.key_spans.proofs.Apart.{AreApart, all-apart, every-at, installed-lived, most, rises}
 
@@ -29,8 +29,8 @@ module _ (s : ℕ) (an : AssociationNumber) where
   ended-front : (front : List Span) (last : Span) → AreApart s an (front ++ last ∷ []) → AllEnded front
   ended-front [] last apart = tt
   ended-front (x ∷ front) last apart =
-      let by : EndsBy last.installed x =
-      every-at (λ (y : Span). EndsBy y.installed x) front [] last apart.0 in
+      let by : HasEndedAt last.installed x =
+      every-at (λ (y : Span). HasEndedAt y.installed x) front [] last apart.0 in
       (subst (λ (o : Option End). IsTrue (is_some o)) (sym by.ended) refl, ended-front front last apart.1)
 
   abbrev Under : ℕ → Span → Type 0
@@ -72,7 +72,7 @@ module _ (s : ℕ) (an : AssociationNumber) where
     times = times start facts (omega arith);
   }
 
-pub one_more : (facts : List Fact) (f : Fact) (old new : Kept) → StandsFor facts old → IsTaken f old new
+pub one_more : (facts : List Fact) (f : Fact) (old new : KeptSpans) → StandsFor facts old → IsFactTaken f old new
     → StandsFor (facts ++ f ∷ []) new
 one_more facts f old new stands taken = record {
   clock_is = taken.clock_is ∙ ap (λ (at : Clock). clock_after at f) stands.clock_is ∙ sym (clock-more start facts f);
@@ -85,7 +85,7 @@ one_more facts f old new stands taken = record {
       (stands.rows_are s an));
 }
 
-pub none_more : (facts : List Fact) (old new : Kept) → StandsFor facts old → IsKept old new → StandsFor facts new
+pub none_more : (facts : List Fact) (old new : KeptSpans) → StandsFor facts old → IsKept old new → StandsFor facts new
 none_more facts old new stands kept = record {
   clock_is = kept.clock_is ∙ stands.clock_is;
   rows_are = λ s an.

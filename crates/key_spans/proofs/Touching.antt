@@ -3,7 +3,7 @@ use Rattle.std.proofs.Common.{◌≡◌, ◌∙◌, ◌≤◌, ℕ, List, [], �
 use Rattle.std.specs.Prelude.{map}
 use Rattle.std.proofs.lemmas.List.Elements.{All-cons, All-head, All-tail}
 use Rattle.lan_base.specs.declared.association_number.AssociationNumber.TheVariants.{An0}
-use Rattle.tick_columns.specs.Columns.{IsLast, IsThinned, Kept as Columns}
+use Rattle.tick_columns.specs.Columns.{IsLast, IsThinned, Columns}
 use Rattle.key_spans.specs.declared.span.Span.{Span}
 use Rattle.key_spans.specs.declared.span.Turn.{Turn}
 use Rattle.key_spans.specs.declared.span.Turn.TheVariants.{Ends}

@@ -10,7 +10,7 @@ use Rattle.sak_exchange.specs.declared.offer.Offer.{Offer}
 use Rattle.sak_exchange.specs.declared.held_key.Key.{Key}
 use Rattle.sak_exchange.specs.Histories.{Keying, has_begun}
 use Rattle.sak_exchange.specs.Histories as keyings
-use Rattle.sak_exchange.specs.Held.{Kept, latest, received}
+use Rattle.sak_exchange.specs.Held.{KeepsRules, latest, received}
 use Rattle.sak_exchange.specs.Beginning.{Beginning}
 use Rattle.sak_exchange.specs.Outcomes.{beginning}
 use Rattle.mka_station.specs.declared.verdict.DropReason.{DropReason}
@@ -29,7 +29,7 @@ view-server : (m : Member) (p : List Entry) → (view m p).server ≡ elected m 
 unfolding view elected
 view-server m p = refl
 
-kept-before : (base : ℕ) (b : Option Beginning) (h : List Keying) → Kept base (with_began b h) → Kept base h
+kept-before : (base : ℕ) (b : Option Beginning) (h : List Keying) → KeepsRules base (with_began b h) → KeepsRules base h
 kept-before base None h kept = kept
 kept-before base (Some b) h kept = kept.1
 
@@ -37,15 +37,15 @@ module _ (an : AssociationNumber) where
   -- ---- a tick
 
   key-stage : (base : ℕ) (h1 : List Keying) (lead : Option Beginning) (r : Option (List Mi)) (key : Option Key)
-      → Kept base (with_key r key (with_began lead h1)) → ((n : Key) → key ≡ Some n → lead ≡ None)
+      → KeepsRules base (with_key r key (with_began lead h1)) → ((n : Key) → key ≡ Some n → lead ≡ None)
       → Goes an (with_began lead h1) (install_changes h1 r key) (with_key r key (with_began lead h1))
   key-stage base h1 lead r None kept alone = refl
   key-stage base h1 None r (Some n) kept alone = goes-key an base h1 r (Some n) kept
   key-stage base h1 (Some b) r (Some n) kept alone = let e = alone n refl in absurd (cc e)
 
   tick-stages : (base : ℕ) (h v0 v1 : List Keying) (server : Option Mi) (lead : Option Beginning)
-      (r : Option (List Mi)) (key : Option Key) → v0 ≡ h → v1 ≡ keyings.ticked (is_some server) ∷ h → Kept base h
-      → Kept base (with_key r key (with_began lead (keyings.ticked (is_some server) ∷ h)))
+      (r : Option (List Mi)) (key : Option Key) → v0 ≡ h → v1 ≡ keyings.ticked (is_some server) ∷ h → KeepsRules base h
+      → KeepsRules base (with_key r key (with_began lead (keyings.ticked (is_some server) ∷ h)))
       → ((b : Beginning) → lead ≡ Some b → (latest v1 ≡ Some b.key) × (has_begun v1 b.key.epoch ≡ false))
       → ((n : Key) → key ≡ Some n → lead ≡ None)
       → Goes an h (ended v0 server ++ ((beginning v1 lead).changes ++ install_changes v1 r key))
@@ -64,7 +64,7 @@ module _ (an : AssociationNumber) where
       ))))
       (subst (λ v. Goes an h2 (install_changes v r key) h3) (sym at1) (key-stage base h1 lead r key kept_all alone)))
 
-  pub tick-goes : (m : Member) (seen : Seen) (sak : Secret) (p : List Entry) → Kept m.base (keys_of m p)
+  pub tick-goes : (m : Member) (seen : Seen) (sak : Secret) (p : List Entry) → KeepsRules m.base (keys_of m p)
       → Goes an (keys_of m p) (tick_turn m seen sak p).reaction.changes (keys_of m (tick_turn m seen sak p).past)
   unfolding tick_turn
   tick-goes m seen sak p kept =
@@ -85,7 +85,7 @@ module _ (an : AssociationNumber) where
       subst (λ g. Goes an h (ended v0.keys v1.server ++
       ((beginning v1.keys lead).changes ++ install_changes v1.keys r key)) g) (sym whole)
       (tick-stages m.base h v0.keys v1.keys v1.server lead r key (view-keys m p) now kept
-      (subst (Kept m.base) whole kept_all)
+      (subst (KeepsRules m.base) whole kept_all)
       (λ b is. let l = led-is m v1 b is in (l.latest_key, l.unbegun))
       (λ n is. (making-is m v1 seen sak n is).none_led))
 
@@ -96,7 +96,7 @@ module _ (an : AssociationNumber) where
 
   hear-stages : (base : ℕ) (h v1 v2 : List Keying) (offer : Option Offer) (answer : Option (Result Key Why))
       (follow : Option Beginning) → v1 ≡ h → v2 ≡ with_key None (key_taken answer) h
-      → Kept base (with_began follow (with_key None (key_taken answer) h))
+      → KeepsRules base (with_began follow (with_key None (key_taken answer) h))
       → ((b : Beginning) → follow ≡ Some b → (latest v2 ≡ Some b.key) × (has_begun v2 b.key.epoch ≡ false))
       → ((offer ≡ None) → answer ≡ None)
       → Goes an h (take_changes v1 offer answer ++ (beginning v2 follow).changes)
@@ -114,7 +114,7 @@ module _ (an : AssociationNumber) where
         subst (λ v. has_begun v b.key.epoch ≡ false) at2 l.1,
       ))))
 
-  hear-goes : (m : Member) (a : Announcement) (p : List Entry) → Kept m.base (keys_of m p)
+  hear-goes : (m : Member) (a : Announcement) (p : List Entry) → KeepsRules m.base (keys_of m p)
       → Goes an (keys_of m p) (hear_turn m a p).reaction.changes (keys_of m (hear_turn m a p).past)
   unfolding hear_turn
   hear-goes m a p kept =
@@ -132,11 +132,11 @@ module _ (an : AssociationNumber) where
       let kept_all = kept-turn m.base h _ (hear-is_turn m a p) kept in
       subst (λ g. Goes an h (take_changes v1.keys offer answer ++ (beginning v2.keys follow).changes) g) (sym whole)
       (hear-stages m.base h v1.keys v2.keys offer answer follow now then
-      (subst (Kept m.base) whole kept_all)
+      (subst (KeepsRules m.base) whole kept_all)
       (λ b is. let f = following-is v2 _ a b is in (f.latest_key, f.unbegun))
       (λ none. none-offered m v1 offer none))
 
-  pub frame-goes : (m : Member) (octets : List ℕ) (p : List Entry) → Kept m.base (keys_of m p)
+  pub frame-goes : (m : Member) (octets : List ℕ) (p : List Entry) → KeepsRules m.base (keys_of m p)
       → Goes an (keys_of m p) (frame_turn m octets p).reaction.changes (keys_of m (frame_turn m octets p).past)
   frame-goes m octets p kept = by (judged m.setup octets)
     where

@@ -3,7 +3,7 @@ use Rattle.std.specs.Prelude.{ℕ, ◌≡◌, List, Option, Some, None, slice_ge
 use Rattle.lan_base.specs.declared.association_number.AssociationNumber.{AssociationNumber}
 use Rattle.lan_base.specs.declared.association_number.AssociationNumber.TheVariants.{An0, An1, An2, An3}
 use Rattle.lan_core.specs.declared.fact.Fact.{Fact}
-use Rattle.tick_columns.specs.Columns.{IsThinned, Kept as Columns, no_columns}
+use Rattle.tick_columns.specs.Columns.{IsThinned, Columns, no_columns}
 use Rattle.key_spans.specs.declared.clock.Clock.{Clock}
 use Rattle.key_spans.specs.declared.span.Span.{Span}
 use Rattle.key_spans.specs.Spans.{clock, spans, start}
@@ -34,7 +34,7 @@ row_in rows An2 = rows.an2
 row_in rows An3 = rows.an3
 
 -- those of all stations by place, and the clock
-pub record Kept : Type 0 where
+pub record KeptSpans : Type 0 where
   pub clock : Clock
   pub lanes : List Rows
 
@@ -46,7 +46,7 @@ abbrev pub row_at : List Rows → ℕ → AssociationNumber → Columns Span
 row_at lanes s an = row_of (slice_get lanes s) an
 
 -- the clock is that of the facts, and each row has their spans in few columns
-pub record StandsFor (facts : List Fact) (kept : Kept) : Type 0 where
+pub record StandsFor (facts : List Fact) (kept : KeptSpans) : Type 0 where
   pub clock_is : kept.clock ≡ clock start facts
   pub rows_are : (s : ℕ) (an : AssociationNumber)
       → IsThinned installed_at (spans s an facts) (row_at kept.lanes s an)

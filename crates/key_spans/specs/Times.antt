@@ -4,7 +4,7 @@ use Rattle.key_spans.specs.declared.span.End.{End}
 use Rattle.key_spans.specs.declared.span.Span.{Span}
 
 -- a key was held no more at this time
-pub record EndsBy (at : ℕ) (span : Span) : Type 0 where
+pub record HasEndedAt (at : ℕ) (span : Span) : Type 0 where
   pub end : End
   pub ended : span.ended ≡ Some end
   pub before : end.at ≤ at

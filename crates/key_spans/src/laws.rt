@@ -11,7 +11,7 @@ ghost use Rattle.lan_core.specs.Legal.{IsLegal, IsStepped};
 ghost use Rattle.key_spans.specs.Held.{TellOf};
 ghost use Rattle.key_spans.specs.declared.span.Span.{Span};
 ghost use Rattle.key_spans.specs.Spans.{spans};
-ghost use Rattle.key_spans.specs.Times.{EndsBy, Transmits};
+ghost use Rattle.key_spans.specs.Times.{HasEndedAt, Transmits};
 
 /// Of two keys that a station held under one number, the earlier was held no more when the later was
 /// installed: spans under one number do not overlap.
@@ -19,7 +19,7 @@ pub fn law_spans_do_not_overlap()
     ensures { (s : ℕ) (an : AssociationNumber) (facts : List Fact)
         (before between behind : List Span) (earlier later : Span)
         → spans s an facts ≡ before ++ earlier ∷ (between ++ later ∷ behind)
-        → EndsBy later.installed earlier }
+        → HasEndedAt later.installed earlier }
 {}
 
 /// At any moment, which is after any facts, the keys of a station that transmit are all under one

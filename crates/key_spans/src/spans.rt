@@ -7,7 +7,7 @@ ghost use Rattle.lan_core.specs.Run.{place};
 ghost use Rattle.key_spans.specs.Spans.{clock, clock_after, spans, start};
 ghost use Rattle.tick_columns.specs.Columns.{IsThinned};
 ghost use Rattle.key_spans.specs.Standing.{StandsFor, installed_at, shown};
-ghost use Rattle.key_spans.specs.inside.Taking.{IsKept, IsPlaced, IsReached, IsTaken, TakesAt};
+ghost use Rattle.key_spans.specs.inside.Taking.{IsKept, IsPlaced, IsReached, IsFactTaken, TakesAt};
 
 use crate::clock::Clock;
 use crate::lane::Lane;
@@ -28,9 +28,9 @@ pub struct Spans {
 }
 
 impl Model for Spans {
-    ghost use Rattle.key_spans.specs.Standing.{Kept};
+    ghost use Rattle.key_spans.specs.Standing.{KeptSpans};
 
-    ghost Value = { Kept };
+    ghost Value = { KeptSpans };
 
     ghost view = { λ s. record { clock = s.clock; lanes = s.lanes.items } };
 }
@@ -74,7 +74,7 @@ impl Spans {
 
     /// A fact is taken.
     fn take_in(&mut self, fact: &Fact) -> Result<(), AllocError>
-        ensures taken { OnOk result (IsTaken fact.now self.old self.new) }
+        ensures taken { OnOk result (IsFactTaken fact.now self.old self.new) }
         ensures kept { OnErr result (IsKept self.old self.new) }
     {
         self.make_place(fact)?;

@@ -16,7 +16,7 @@ use Rattle.known_keys.specs.declared.sender.Sender.{Sender}
 use Rattle.known_keys.specs.declared.sender.Sender.TheVariants.{Any}
 use Rattle.known_keys.specs.History.{Entry, Gave, Set, Showed, Strange, keys}
 use Rattle.known_keys.specs.Known.{is_open, number_told, same_sender}
-use Rattle.known_keys.specs.Standing.{IsOneKey, IsSaid, Kept, StandsFor}
+use Rattle.known_keys.specs.Standing.{IsOneKey, IsSaid, KeptKeys, StandsFor}
 use Rattle.known_keys.specs.Maps.{Missed, Told}
 use Rattle.known_keys.specs.inside.Steps.{IsKeyed, Opens}
 use Rattle.known_keys.specs.Maps.{Firsts}
@@ -46,7 +46,7 @@ lists-given history packet nanos group id an offset sak number old new told fals
     (λ s a. ap (λ b. b && (same_sender Any s && same_an an a)) closed) are
 
 pub gave-stands : (history : List Entry) (packet nanos group : ℕ) (id : KeyId) (an : AssociationNumber)
-    (offset : ConfidentialityOffset) (sak : Secret) (number : ℕ) (old new : Kept) (others : Others) (fresh : Fresh)
+    (offset : ConfidentialityOffset) (sak : Secret) (number : ℕ) (old new : KeptKeys) (others : Others) (fresh : Fresh)
     → StandsFor history old → old.firsts.last < packet → IsKeyed (keys history) sak number new.keys
     → Opens (is_open offset) an number old.lists new.lists
     → IsGiven packet id (record { an = an; key = number }) old.firsts new.firsts others
@@ -90,7 +90,7 @@ set-says history sender an sak said are = record { by_group = are.by_group; by_a
 -- ---- entries that tell no SAK
 
 pub withheld-stands : (history : List Entry) (packet nanos group : ℕ) (id : KeyId) (an : AssociationNumber)
-    (why : NoSak) (old : Kept) (missed : Missed) (is_first : Bool) → StandsFor history old
+    (why : NoSak) (old : KeptKeys) (missed : Missed) (is_first : Bool) → StandsFor history old
     → IsWithheld an (group_id group id) nanos why old.misses missed is_first
     → StandsFor (Gave packet nanos group id an (Without why) ∷ history) (record old { misses = missed })
 withheld-stands history packet nanos group id an why old missed is_first stands put =
@@ -110,7 +110,7 @@ withheld-stands history packet nanos group id an why old missed is_first stands 
     (missed-withheld history packet nanos group id an why old.misses missed is_first put stands.is_missed)
 
 pub showed-stands : (history : List Entry) (packet nanos group : ℕ) (id : KeyId) (an : AssociationNumber)
-    (old : Kept) (missed : Missed) → StandsFor history old
+    (old : KeptKeys) (missed : Missed) → StandsFor history old
     → IsShown an (group_id group id) nanos old.misses missed
     → StandsFor (Showed packet nanos group id an ∷ history) (record old { misses = missed })
 showed-stands history packet nanos group id an old missed stands put =
@@ -129,7 +129,7 @@ showed-stands history packet nanos group id an old missed stands put =
     (record { by_group = said.by_group; by_all = said.by_all })
     (missed-showed history packet nanos group id an old.misses missed put stands.is_missed)
 
-pub strange-stands : (history : List Entry) (sci : Sci) (old : Kept) (missed : Missed) → StandsFor history old
+pub strange-stands : (history : List Entry) (sci : Sci) (old : KeptKeys) (missed : Missed) → StandsFor history old
     → IsStranger sci old.misses missed
     → StandsFor (Strange sci ∷ history) (record old { misses = missed })
 strange-stands history sci old missed stands put =

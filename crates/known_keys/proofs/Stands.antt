@@ -15,7 +15,7 @@ use Rattle.known_keys.specs.declared.sender.Sender.TheVariants.{Any, One}
 use Rattle.known_keys.specs.Numbered.{greatest_first, number_in, with_key}
 use Rattle.known_keys.specs.History.{Entry, keys, sak_of}
 use Rattle.known_keys.specs.Known.{same_sender, is_for, is_it, is_told, number_told}
-use Rattle.known_keys.specs.Standing.{IsMissed, IsOneKey, IsSaid, Kept, StandsFor}
+use Rattle.known_keys.specs.Standing.{IsMissed, IsOneKey, IsSaid, KeptKeys, StandsFor}
 use Rattle.known_keys.specs.Maps.{AreKept, Keyed, Missed, Told, numbers_under}
 use Rattle.known_keys.specs.inside.Steps.{IsKeyed, IsToldTo, with_place}
 use Rattle.known_keys.proofs.SakNumbers.{equal}
@@ -165,7 +165,7 @@ keys-told history entry sak number new tells keyed =
           ∙ ap (λ (ss : List Secret). number_in ss sak) (sym same) ∙ keyed.number,
     )
 
-pub told-stands : (history : List Entry) (entry : Entry) (sak : Secret) (number : ℕ) (old new : Kept)
+pub told-stands : (history : List Entry) (entry : Entry) (sak : Secret) (number : ℕ) (old new : KeptKeys)
     (sender : Sender) (an : AssociationNumber)
     → sak_of entry ≡ Some sak
     → ((s : Sender) (a : AssociationNumber) → is_for s a entry ≡ (same_sender sender s && same_an an a))
@@ -184,7 +184,7 @@ told-stands history entry sak number old new sender an tells meant stands keyed 
     }
 
 -- an entry that tells no SAK
-pub quiet-stands : (history : List Entry) (entry : Entry) (old : Kept) (missed : Missed) → sak_of entry ≡ None
+pub quiet-stands : (history : List Entry) (entry : Entry) (old : KeptKeys) (missed : Missed) → sak_of entry ≡ None
     → ((s : Sender) (a : AssociationNumber) → is_for s a entry ≡ false)
     → StandsFor history old → IsOneKey (entry ∷ history) old.firsts → IsSaid (entry ∷ history) old.said
     → IsMissed (entry ∷ history) missed → StandsFor (entry ∷ history) (record old { misses = missed })

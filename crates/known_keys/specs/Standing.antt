@@ -15,8 +15,8 @@ use Rattle.known_keys.specs.Said.{Naming, Statement, is_named_so, is_said}
 use Rattle.known_keys.specs.Undecided.{GroupId, first_offset, named, was_strange, was_without}
 use Rattle.known_keys.specs.Maps.{AreKept, Firsts, IsCoveredBy, Keyed, Missed, Sets, Told, first_giving, first_naming, group_id_cmp, has, naming_cmp, numbers_under, offset_at, sci_cmp, statement_cmp, times_under}
 
--- what is kept
-pub record Kept : Type 0 where
+-- what is kept of the keys that were given and set
+pub record KeptKeys : Type 0 where
   pub keys : Keyed
   pub lists : Told
   pub firsts : Firsts
@@ -48,7 +48,7 @@ pub record IsMissed (history : List Entry) (misses : Missed) : Type 0 where
   pub only_named : (an : AssociationNumber) → IsCoveredBy (times_under misses.named an) (named history an)
   pub strange : (sci : Sci) → has sci_cmp misses.strange sci ≡ was_strange history sci
 
-pub record StandsFor (history : List Entry) (kept : Kept) : Type 0 where
+pub record StandsFor (history : List Entry) (kept : KeptKeys) : Type 0 where
   pub are_kept : AreKept (keys history) kept.keys
   pub lists : (sender : Sender) (an : AssociationNumber)
       → numbers_under kept.lists sender an ≡ greatest_first (is_told history sender an) (length (keys history))

@@ -45,9 +45,9 @@ pub struct KnownKeys {
 }
 
 impl Model for KnownKeys {
-    ghost use Rattle.known_keys.specs.Standing.{Kept};
+    ghost use Rattle.known_keys.specs.Standing.{KeptKeys};
 
-    ghost Value = { Kept };
+    ghost Value = { KeptKeys };
 
     ghost view = { λ k. record {
       keys = k.keys;

@@ -11,7 +11,7 @@ use Rattle.lan_schedule.specs.World.{World, settings}
 use Rattle.lan_schedule.specs.Numbers.{shown_next, in_range, number_shown, number_claimed, stands}
 use Rattle.lan_schedule.specs.Numbers.{takes_chance, number_of_event, decided}
 use Rattle.lan_schedule.specs.Acts.{world_after}
-use Rattle.lan_schedule.specs.inside.Set.{IsGiven, IsTaken}
+use Rattle.lan_schedule.specs.inside.Set.{IsGiven, IsClaimNumber}
 use Rattle.lan_schedule.proofs.Tidying.{in-range}
 
 -- ---- what an event uses
@@ -91,7 +91,7 @@ within-range next n one low most = grind arith
 none-within : (next n : ℕ) → next ≡ 0 → (stands true next n && nat_le n last_number) ≡ false
 none-within next n none = rw none refl
 
-claimed-by : (b : Bool) (next n : ℕ) (later : List Chance) → nat_le 1 n ≡ b → IsTaken true next n
+claimed-by : (b : Bool) (next n : ℕ) (later : List Chance) → nat_le 1 n ≡ b → IsClaimNumber true next n
     → let number = number_in (chance_if b n ++ later) in
     n ≡ cond (stands true next number && nat_le number last_number) number (in_range next)
 claimed-by true next n later is (inl taken) =
@@ -105,7 +105,7 @@ claimed-by false next n later is (inr none) =
     none.1 ∙ sym (ap (λ (b : Bool). cond b (number_in later) (in_range next))
     (none-within next (number_in later) none.0) ∙ ap (λ (k : ℕ). in_range k) none.0)
 
-taken-claimed : (raced : Bool) (next n : ℕ) (later : List Chance) → IsTaken raced next n
+taken-claimed : (raced : Bool) (next n : ℕ) (later : List Chance) → IsClaimNumber raced next n
     → let number = number_in (chance_if (raced && nat_le 1 n) n ++ later) in
     n ≡ cond (stands raced next number && nat_le number last_number) number (in_range next)
 taken-claimed false next n later taken = taken.0 ∙ sym (in-range next taken.1)
@@ -114,7 +114,7 @@ taken-claimed true next n later taken = claimed-by (nat_le 1 n) next n later ref
 -- the number that the words gave to a claim is what is claimed
 pub claimed-is : (w : World) (s user n : ℕ) (later : List Chance)
     → w.kept.chances ≡ decided w.kept.raced (events.Claim s user n) ++ later
-    → IsTaken w.kept.raced (shown_next (settings w) s w.run) n → n ≡ number_claimed w s
+    → IsClaimNumber w.kept.raced (shown_next (settings w) s w.run) n → n ≡ number_claimed w s
 claimed-is w s user n later is taken =
     let next = shown_next (settings w) s w.run in
     taken-claimed w.kept.raced next n later taken

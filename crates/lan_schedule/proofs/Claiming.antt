@@ -19,7 +19,7 @@ use Rattle.lan_schedule.specs.declared.stage.Stage.{Stage}
 use Rattle.lan_schedule.specs.World.{World, settings, is_racing}
 use Rattle.lan_schedule.specs.Numbers.{shown_next}
 use Rattle.lan_schedule.specs.Stages.{Says, StandsFor}
-use Rattle.lan_schedule.specs.inside.Set.{SaysAhead, IsTaken, most_claims}
+use Rattle.lan_schedule.specs.inside.Set.{SaysAhead, IsClaimNumber, most_claims}
 
 -- ---- what the words say
 
@@ -104,7 +104,7 @@ pub record Gives (s n pn : ℕ) (old mid : Stage) : Type 0 where
   pub spends : SpendsNone
 
 got-taken : (settings : Settings) (s : ℕ) (r : Run) (cs : List ControlAt) (n : ℕ)
-    → HasGot settings s r cs n → (AreSpent s cs → ⊥) → IsTaken true (shown_next settings s r) n
+    → HasGot settings s r cs n → (AreSpent s cs → ⊥) → IsClaimNumber true (shown_next settings s r) n
 got-taken settings s r cs n (inl got) never = inl (got.0, got.1, got.2)
 got-taken settings s r cs n (inr none) never =
     ⊎_elim (λ (no_key : shown_next settings s r ≡ 0). inr (no_key, none.0))
@@ -112,9 +112,9 @@ got-taken settings s r cs n (inr none) never =
 
 taken-by : (raced racing : Bool) (settings : Settings) (r : Run) (event : Event)
     (cs : List ControlAt) (next n : ℕ) → racing ≡ false
-    → (raced ≡ false → IsTaken false next n × AreAhead settings r event cs)
-    → (raced ≡ true → IsTaken true next n × CaughtAhead settings r event cs)
-    → IsTaken raced next n × SaysAhead raced racing settings r event cs
+    → (raced ≡ false → IsClaimNumber false next n × AreAhead settings r event cs)
+    → (raced ≡ true → IsClaimNumber true next n × CaughtAhead settings r event cs)
+    → IsClaimNumber raced next n × SaysAhead raced racing settings r event cs
 taken-by false racing settings r event cs next n apart calm caught = calm refl
 taken-by true false settings r event cs next n apart calm caught = caught refl
 taken-by true true settings r event cs next n apart calm caught = absurd (cc apart)
@@ -123,7 +123,7 @@ taken-by true true settings r event cs next n apart calm caught = absurd (cc apa
 pub gives-taken : (w : World) (s n pn : ℕ) (old mid : Stage) → StandsFor w old
     → is_racing w.kept.phase ≡ false → s < length (stations w.run) → Gives s n pn old mid
     → (w.kept.raced ≡ false → shown_next (settings w) s w.run ≤ last_number)
-    → IsTaken w.kept.raced (shown_next (settings w) s w.run) pn
+    → IsClaimNumber w.kept.raced (shown_next (settings w) s w.run) pn
     × SaysAhead w.kept.raced (is_racing w.kept.phase) (settings w) w.run (events.Claim s n pn)
     mid.words
 gives-taken w s n pn old mid stands apart there gives low =

@@ -31,7 +31,7 @@ use Rattle.lan_schedule.specs.Ends.{Moment, IsReached, Ends}
 use Rattle.lan_schedule.specs.inside.Comes.{Comes}
 use Rattle.lan_schedule.specs.Stages.{Says, StandsWith, StandsFor}
 use Rattle.lan_schedule.specs.inside.Recording.{Mark, KeepSeats, stages_since}
-use Rattle.lan_schedule.specs.inside.Set.{IsTaken}
+use Rattle.lan_schedule.specs.inside.Set.{IsClaimNumber}
 use Rattle.lan_schedule.specs.inside.Staged.{IsSetSince}
 use Rattle.lan_schedule.proofs.Recorded.{looked-apart}
 use Rattle.std.specs.Prelude.{is_some, option_map}
@@ -125,7 +125,7 @@ user-stands user w old mid stands same line users cuts words cards =
     (stands-more (settings w) w.kept.users (user ∷ []) old.lan w.run stands.lan) words cards
 
 -- a claim gets none where no next number is
-taken-none : (raced : Bool) (next n : ℕ) → IsTaken raced next n → n ≡ 0 → next ≡ 0
+taken-none : (raced : Bool) (next n : ℕ) → IsClaimNumber raced next n → n ≡ 0 → next ≡ 0
 taken-none false next n taken none = sym taken.0 ∙ none
 taken-none true next n (inl some) none = absurd (let low = some.0 in let few = some.1 in omega (arith, low, few, none))
 taken-none true next n (inr both) none = both.0

@@ -12,11 +12,11 @@ use std::marker::Model;
 
 /// The facts of events, the oldest first. Contracts see a list for each event.
 #[derive(Drop)]
-pub struct Kept {
+pub struct KeptEvents {
     shown: VecDeque<Facts>,
 }
 
-impl Model for Kept {
+impl Model for KeptEvents {
     ghost use Rattle.std.specs.Prelude.{List};
     ghost use Rattle.lan_core.specs.declared.fact.Fact.{Fact};
 
@@ -25,12 +25,12 @@ impl Model for Kept {
     ghost view = { λ k. k.shown.items };
 }
 
-impl Kept {
+impl KeptEvents {
     /// Nothing happened.
     pub fn new(alloc: Global) -> Self
         ensures { result ≡ [] }
     {
-        Kept {
+        KeptEvents {
             shown: VecDeque::new(alloc),
         }
     }
@@ -71,7 +71,7 @@ impl Kept {
 #[derive(Clone, Copy, Debug)]
 pub struct Keeping;
 
-impl Recorder<Kept> for Keeping {
+impl Recorder<KeptEvents> for Keeping {
     ghost use Rattle.lan_schedule.specs.inside.Weaves.{KeepsReport, KeepsNoMore};
 
     ghost Took = { KeepsReport };
@@ -82,7 +82,7 @@ impl Recorder<Kept> for Keeping {
         &mut self,
         _names: &[Name],
         facts: Facts,
-        outlet: &mut Kept,
+        outlet: &mut KeptEvents,
     ) -> Result<(), Unwritten> {
         outlet.keep(facts)?;
         Ok(())

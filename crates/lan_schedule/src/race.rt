@@ -26,7 +26,7 @@ ghost use Rattle.lan_schedule.specs.inside.Beside.{HaveSeats, IsFull, OutFor};
 ghost use Rattle.lan_schedule.specs.inside.Beside.{DidRace, EndsRace, Weaves, has_stopped, is_memory};
 ghost use Rattle.lan_schedule.specs.inside.Staged.{Did};
 
-use crate::keeping::{Keeping, Kept};
+use crate::keeping::{Keeping, KeptEvents};
 use crate::phase::{Burst, Numbered};
 use crate::recorder::{Preparing, Recorder};
 use crate::stage::{MAX_CLAIMED, MAX_USERS, Stage};
@@ -70,7 +70,7 @@ pub struct Crew {
 #[derive(Drop)]
 pub struct Ran {
     pub steps: Vec<Step>,
-    pub kept: Kept,
+    pub kept: KeptEvents,
     pub came: Result<(), Halt>,
     pub logs: Vec<Log>,
 }
@@ -129,7 +129,7 @@ fn run_beside<T: Threads + Sync, G: Gate + Sync>(
         mut workers,
         logs,
     } = crew;
-    let kept = Kept::new(stage.alloc);
+    let kept = KeptEvents::new(stage.alloc);
     let mut runner = Runner {
         stage,
         control,
@@ -448,7 +448,11 @@ impl Stage {
     /// The events of control and the claims of the workers stand in one run; unless the group stopped,
     /// the frames of these are emitted. What all of it shows, and how it came to its end. An error is
     /// want of memory.
-    fn weave<G: Gate>(&mut self, ran: Ran, gate: &G) -> Result<(Kept, Result<(), Halt>), AllocError>
+    fn weave<G: Gate>(
+        &mut self,
+        ran: Ran,
+        gate: &G,
+    ) -> Result<(KeptEvents, Result<(), Halt>), AllocError>
         ensures weaves { Weaves ran self.old self.new result }
         ensures seats { NoMoreOut self.old.words self.new.words }
     {

@@ -1,6 +1,6 @@
 //! Control of a race: its lines are performed while the workers claim.
 
-use crate::keeping::{Keeping, Kept};
+use crate::keeping::{Keeping, KeptEvents};
 use crate::phase::Numbered;
 use crate::stage::Stage;
 use data_workers::Steering;
@@ -13,7 +13,7 @@ use trace_acts::Halt;
 pub struct Runner<'g, G> {
     pub stage: Stage,
     pub control: Vec<Numbered>,
-    pub kept: Kept,
+    pub kept: KeptEvents,
     pub came: Result<(), Halt>,
     pub gate: &'g G,
 }

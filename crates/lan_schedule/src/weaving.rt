@@ -8,7 +8,7 @@ ghost use Rattle.lan_schedule.specs.inside.Weaves.{shown_in, shown_of, kept_behi
 ghost use Rattle.trace_acts.specs.Tellings.{WereToldUpTo};
 ghost use Rattle.lan_schedule.specs.inside.Weaves.{claim_shown, facts_in};
 
-use crate::keeping::Kept;
+use crate::keeping::KeptEvents;
 use crate::recorder::Preparing;
 use crate::stage::count_all;
 use fact_tally::Tally;
@@ -21,15 +21,15 @@ use std::alloc::{AllocError, Global};
 pub fn shown_in(
     alloc: Global,
     events: &[Event],
-    mut kept: Kept,
+    mut kept: KeptEvents,
     frames: &[Protected],
     tally: &mut Tally,
-) -> Result<Kept, AllocError>
+) -> Result<KeptEvents, AllocError>
     ensures shown { IfOk result (λ shown. shown ≡ shown_in events.now kept frames.now) }
     ensures counted { (before : List Fact) → tally.old ≡ counts before
         → OnOk result (tally.new ≡ counts (facts_in before (shown_in events.now kept frames.now))) }
 {
-    let mut shown = Kept::new(alloc);
+    let mut shown = KeptEvents::new(alloc);
     let mut left = frames;
     for event in events {
         let facts = shown_of(alloc, event, &mut kept, left)?;
@@ -44,7 +44,7 @@ pub fn shown_in(
 fn shown_of(
     alloc: Global,
     event: &Event,
-    kept: &mut Kept,
+    kept: &mut KeptEvents,
     frames: &[Protected],
 ) -> Result<Facts, AllocError>
     ensures shown { IfOk result (λ facts. facts ≡ shown_of event.now kept.old frames.now) }

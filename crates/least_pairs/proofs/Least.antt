@@ -229,13 +229,13 @@ module _ (K V : Type 0) (agree : V → V → Bool) where
           }))
 
   -- what is kept of what was told: the verdict, and while no pair breaks the first of each key
-  abbrev pub Kept : Noted K V → Option (ℕ × ℕ) → (K → Option (ℕ × V)) → Type 0
-  Kept f o found =
+  abbrev pub KeepsFirsts : Noted K V → Option (ℕ × ℕ) → (K → Option (ℕ × V)) → Type 0
+  KeepsFirsts f o found =
       IsJudged (Breaks K V agree f) o × (o ≡ None → (k : K) → IsFound K V f k (found k))
 
   pub still : (f g : Noted K V) (n : ℕ) → IsOneMore K V f g n None
-      → (o : Option (ℕ × ℕ)) (found : K → Option (ℕ × V)) → Kept f o found
-      → Kept g o found
+      → (o : Option (ℕ × ℕ)) (found : K → Option (ℕ × V)) → KeepsFirsts f o found
+      → KeepsFirsts g o found
   still f g n go o found was = (
     quiet f g n go o was.0,
     λ e k. found-quiet f g n go k (found k) (was.1 e k),

@@ -15,11 +15,11 @@ use Rattle.std.proofs.lemmas.List.Elements.{All-append, All-cons, All-head, All-
 use Rattle.std.proofs.lemmas.Map.Lookups.{CmpEqualImpliesEq, exact_unsigned, exact_bytes}
 use Rattle.lan_base.specs.declared.address.Sci.{Sci}
 use Rattle.lan_base.specs.Identifiers.{same_sci}
-use Rattle.tick_columns.specs.Columns.{Kept as Columns}
+use Rattle.tick_columns.specs.Columns.{Columns}
 use Rattle.mark_notes.specs.declared.giving.Giving.{Giving}
 use Rattle.mark_notes.specs.declared.reuse.Reuse.{Reuse}
 use Rattle.mark_notes.specs.Marks.{reuse_here, reuses_of}
-use Rattle.mark_notes.specs.Standing.{KeepsReuses, Kept, StandsFor, sci_cmp}
+use Rattle.mark_notes.specs.Standing.{KeepsReuses, KeptMarks, StandsFor, sci_cmp}
 use Rattle.mark_notes.specs.inside.Putting.{IsGivenMore, IsReusedAt}
 
 -- ---- the orders tie just those that are the same
@@ -52,7 +52,7 @@ exact-sci a b e = sci-of a b (exact_bytes a.0 b.0 e)
 
 -- ---- givings
 
-pub gave : (gs : List Giving) (rs : List Reuse) (old : Kept) (g : Giving) (new : List (ℕ × Giving)) → StandsFor gs rs old
+pub gave : (gs : List Giving) (rs : List Reuse) (old : KeptMarks) (g : Giving) (new : List (ℕ × Giving)) → StandsFor gs rs old
     → IsGivenMore g old.givings new → StandsFor (g ∷ gs) rs (record { givings = new; senders = old.senders })
 gave gs rs old g new stands more = record {
   givings = λ key.
@@ -80,7 +80,7 @@ stay-behind packet sci (r ∷ rs) behind =
     (stay-behind packet sci rs (All-tail (λ (x : Reuse). x.packet ≤ packet) r rs behind))
     (here-behind packet sci r (All-head (λ (x : Reuse). x.packet ≤ packet) r rs behind))
 
-pub reused : (gs : List Giving) (rs : List Reuse) (old : Kept) (r : Reuse) (new : List (Sci × Columns Reuse))
+pub reused : (gs : List Giving) (rs : List Reuse) (old : KeptMarks) (r : Reuse) (new : List (Sci × Columns Reuse))
     → StandsFor gs rs old → IsReusedAt r (reuses_of r.sci rs) old.senders new
     → StandsFor gs (r ∷ rs) (record { givings = old.givings; senders = new })
 reused gs rs old r new stands more = record {

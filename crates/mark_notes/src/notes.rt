@@ -25,9 +25,9 @@ pub struct MarkNotes {
 }
 
 impl Model for MarkNotes {
-    ghost use Rattle.mark_notes.specs.Standing.{Kept};
+    ghost use Rattle.mark_notes.specs.Standing.{KeptMarks};
 
-    ghost Value = { Kept };
+    ghost Value = { KeptMarks };
 
     ghost view = { λ n. record { givings = n.givings.entries; senders = n.senders.entries } };
 }

@@ -9,7 +9,7 @@ use Rattle.std.proofs.lemmas.Map.Lookups.{CmpEqualImpliesEq, exact_pairs, exact_
 use Rattle.lan_base.specs.declared.address.Mi.{Mi}
 use Rattle.member_notes.specs.declared.mkpdu.RightMkpdu.{RightMkpdu}
 use Rattle.member_notes.specs.Mkpdus.{is_of, mkpdus_of}
-use Rattle.member_notes.specs.Standing.{Kept, Keeps, KeepsSome, Members, StandsFor, kept_at, member_cmp}
+use Rattle.member_notes.specs.Standing.{KeptOfMember, Keeps, KeepsSome, Members, StandsFor, kept_at, member_cmp}
 use Rattle.member_notes.specs.inside.Putting.{IsPutAt}
 use Rattle.member_notes.proofs.Firsts.{Changes, untouched}
 use Rattle.member_notes.proofs.Same.{mi-of, of-itself, is-of}
@@ -21,7 +21,7 @@ pub exact-member : CmpEqualImpliesEq member_cmp
 exact-member a b e = exact_pairs nat_cmp (λ (a b : Mi). slice_cmp nat_cmp a.0 b.0) exact_unsigned exact-mi a b e
 
 -- what is kept under a member was put
-pub put-at : (at : ℕ × Mi) (ms : List RightMkpdu) (kept : Kept) (old new : Members) → Keeps ms kept
+pub put-at : (at : ℕ × Mi) (ms : List RightMkpdu) (kept : KeptOfMember) (old new : Members) → Keeps ms kept
     → Changes member_cmp at kept old new → lookup (is_at (member_cmp at)) new ≡ Some kept
     → IsPutAt at ms old new
 put-at at ms kept old new keeps changes here = record {

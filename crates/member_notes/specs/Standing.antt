@@ -11,7 +11,7 @@ use Rattle.member_notes.specs.declared.mkpdu.First.{First}
 use Rattle.member_notes.specs.Mkpdus.{mkpdus_of, first_of, is_above}
 
 -- of a member: by message number the first MKPDU, and the greatest message number
-pub record Kept : Type 0 where
+pub record KeptOfMember : Type 0 where
   pub firsts : List (ℕ × First)
   pub greatest : Option ℕ
 
@@ -20,7 +20,7 @@ above_all mn None = true
 above_all mn (Some greatest) = nat_lt greatest mn
 
 -- after these MKPDUs of the member
-pub record Keeps (ms : List RightMkpdu) (kept : Kept) : Type 0 where
+pub record Keeps (ms : List RightMkpdu) (kept : KeptOfMember) : Type 0 where
   pub firsts : (mn : ℕ) → lookup (is_at (nat_cmp mn)) kept.firsts ≡ first_of mn ms
   pub greatest : (mn : ℕ) → above_all mn kept.greatest ≡ is_above mn ms
 
@@ -30,12 +30,12 @@ member_cmp a b = ordering_then (nat_cmp a.0 b.0) (order a.1 b.1)
 
 -- by member what is kept
 abbrev pub Members : Type 0
-Members = List ((ℕ × Mi) × Kept)
+Members = List ((ℕ × Mi) × KeptOfMember)
 
-abbrev pub kept_at : Members → ℕ → Mi → Option Kept
+abbrev pub kept_at : Members → ℕ → Mi → Option KeptOfMember
 kept_at members group mi = lookup (is_at (member_cmp (group, mi))) members
 
-abbrev pub KeepsSome : List RightMkpdu → Option Kept → Type 0
+abbrev pub KeepsSome : List RightMkpdu → Option KeptOfMember → Type 0
 KeepsSome ms None = ms ≡ []
 KeepsSome ms (Some kept) = Keeps ms kept
 

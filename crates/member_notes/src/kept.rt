@@ -19,10 +19,10 @@ pub struct KeptMkpdus {
 }
 
 impl Model for KeptMkpdus {
-    ghost use Rattle.member_notes.specs.Standing.{Kept};
+    ghost use Rattle.member_notes.specs.Standing.{KeptOfMember};
     ghost use Rattle.member_notes.specs.inside.Fewness.{kept_in};
 
-    ghost Value = { Kept };
+    ghost Value = { KeptOfMember };
 
     ghost view = { λ m. kept_in m.notes };
 }

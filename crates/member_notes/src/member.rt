@@ -21,10 +21,10 @@ pub struct MkpduNotes {
 }
 
 impl Model for MkpduNotes {
-    ghost use Rattle.member_notes.specs.Standing.{Kept};
+    ghost use Rattle.member_notes.specs.Standing.{KeptOfMember};
     ghost use Rattle.std.specs.Prelude.{Some};
 
-    ghost Value = { Kept };
+    ghost Value = { KeptOfMember };
 
     ghost view = { λ m. record { firsts = m.firsts.entries; greatest = Some m.greatest } };
 }

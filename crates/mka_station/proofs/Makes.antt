@@ -15,7 +15,7 @@ use Rattle.mka_station.specs.Lives.{Member, Entry, ticked, peers_of, keys_of}
 use Rattle.mka_station.specs.Views.{view, reports, is_server, serves}
 use Rattle.mka_station.specs.Tick.{led, made, with_beginning, install_changes}
 use Rattle.mka_station.specs.Drawing.{makes_next}
-use Rattle.mka_station.specs.inside.Found.{Found, Comes}
+use Rattle.mka_station.specs.inside.Found.{Found, IsFoundNext}
 use Rattle.mka_station.specs.inside.Rows.{potential_rows, IsShown}
 use Rattle.mka_station.specs.inside.Turns.{made_by, IsDue}
 use Rattle.mka_station.proofs.RowsShown.{rows-show}
@@ -30,7 +30,7 @@ any-passing : {A : Type 0} (test : A → Bool) (xs : List A) → list_any test x
 any-passing test [] = refl
 any-passing test (x ∷ xs) = by_test (test x) (λ e. rw e (sym (positive (length (filter test xs))))) (λ e. rw e (any-passing test xs))
 
-pub potential-is : (m : Member) (p : List Entry) (c : Found) → Comes m p c → list_any (λ r. r.potential) c.rows ≡ nat_lt 0 (length (view m (ticked ∷ p)).potential)
+pub potential-is : (m : Member) (p : List Entry) (c : Found) → IsFoundNext m p c → list_any (λ r. r.potential) c.rows ≡ nat_lt 0 (length (view m (ticked ∷ p)).potential)
 potential-is m p c comes =
     let v = view m (ticked ∷ p) in
     let shows : IsShown m v c.rows = rows-show m (ticked ∷ p) (peers_ticked ∷ peers_of m p) c.rows (peers-ticked m p) comes.rows in
@@ -46,7 +46,7 @@ quiet-keys m p none = ap (λ b. keys_of m (with_beginning b (ticked ∷ p))) non
 abbrev pub makes_by : Member → List Entry → Found → Seen → Bool
 makes_by m p c seen = makes (keys_of m (with_beginning (led m (view m (ticked ∷ p))) (ticked ∷ p))) c.reports (list_any (λ r. r.potential) c.rows) seen m.setup.rekey
 
-makes-same : (m : Member) (p : List Entry) (c : Found) (seen : Seen) → Comes m p c → led m (view m (ticked ∷ p)) ≡ None
+makes-same : (m : Member) (p : List Entry) (c : Found) (seen : Seen) → IsFoundNext m p c → led m (view m (ticked ∷ p)) ≡ None
     → makes_by m p c seen ≡ makes (view m (ticked ∷ p)).keys (reports (view m (ticked ∷ p)).live) (nat_lt 0 (length (view m (ticked ∷ p)).potential)) seen m.setup.rekey
 makes-same m p c seen comes none = rw (quiet-keys m p none, comes.told, potential-is m p c comes) refl
 
@@ -55,14 +55,14 @@ abbrev makes_found : Member → List Keying → Found → Seen → Bool
 makes_found m h c seen =
     is_server c.server m.mi && (is_none (leads h c.reports) && makes h c.reports (list_any (λ r. r.potential) c.rows) seen m.setup.rekey)
 
-found-same : (m : Member) (p : List Entry) (c : Found) (seen : Seen) → Comes m p c → makes_found m (view m (ticked ∷ p)).keys c seen ≡ makes_next m p seen
+found-same : (m : Member) (p : List Entry) (c : Found) (seen : Seen) → IsFoundNext m p c → makes_found m (view m (ticked ∷ p)).keys c seen ≡ makes_next m p seen
 found-same m p c seen comes =
     let v = view m (ticked ∷ p) in
     let same : makes_found m v.keys c seen ≡ (serves m v && (is_none (leads v.keys (reports v.live)) && makes v.keys (reports v.live) (nat_lt 0 (length v.potential)) seen m.setup.rekey)) =
     rw (comes.server, comes.told, potential-is m p c comes) refl in
     same ∙ by_test (serves m v) (λ e. rw e refl) (λ e. rw e refl)
 
-pub makes-is : (m : Member) (p : List Entry) (c : Found) (seen : Seen) → Comes m p c → makes_found m (keys_ticked true ∷ keys_of m p) c seen ≡ makes_next m p seen
+pub makes-is : (m : Member) (p : List Entry) (c : Found) (seen : Seen) → IsFoundNext m p c → makes_found m (keys_ticked true ∷ keys_of m p) c seen ≡ makes_next m p seen
 makes-is m p c seen comes =
     by_option c.server
     (λ e. let none : makes_found m (view m (ticked ∷ p)).keys c seen ≡ false = rw e refl in rw e refl ∙ sym none ∙ found-same m p c seen comes)
@@ -86,7 +86,7 @@ none-led m p seen is =
     let v = view m (ticked ∷ p) in
     none-is (led m v) (both-true (serves m v) (is_none (led m v)) (makes v.keys (reports v.live) (nat_lt 0 (length v.potential)) seen m.setup.rekey) is).0
 
-pub is-due : (m : Member) (p : List Entry) (c : Found) (seen : Seen) (any : Secret) (sak : Option Secret) → Comes m p c → sak ≡ cond (makes_next m p seen) (Some any) None → IsDue sak (makes_by m p c seen)
+pub is-due : (m : Member) (p : List Entry) (c : Found) (seen : Seen) (any : Secret) (sak : Option Secret) → IsFoundNext m p c → sak ≡ cond (makes_next m p seen) (Some any) None → IsDue sak (makes_by m p c seen)
 is-due m p c seen any sak comes is =
     let v = view m (ticked ∷ p) in
     by_test (makes_next m p seen)

@@ -16,7 +16,7 @@ use Rattle.sak_exchange.specs.Outcomes.{Effect, beginning}
 use Rattle.mka_station.specs.Lives.{Setup, Member, Entry, ticked, own, candidate, peers_of, keys_of}
 use Rattle.mka_station.specs.Views.{view, reports, is_server}
 use Rattle.mka_station.specs.Tick.{ended, led, begun_past}
-use Rattle.mka_station.specs.inside.Found.{Found, candidate_by, IsIn, IsAhead, Comes}
+use Rattle.mka_station.specs.inside.Found.{Found, candidate_by, IsIn, IsAhead, IsFoundNext}
 use Rattle.peer_lists.specs.declared.heard.Row.{Row}
 use Rattle.mka_station.specs.inside.Rows.{live_rows, report_of, candidate_in, IsShown}
 use Rattle.mka_station.proofs.RowsShown.{rows-show}
@@ -31,7 +31,7 @@ abbrev pub ticked_with : Member → List Entry → Found → List Keying
 ticked_with m p c = keys_ticked (is_some c.server) ∷ keys_of m p
 
 pub comes : (m : Member) (p : List Entry) (c : Found) → ((at : ℕ) → slice_get c.rows at ≡ row_at (own m) (peers_ticked ∷ peers_of m p) at)
-    → c.reports ≡ map report_of (live_rows c.rows) → c.server ≡ elected_among (candidate m) (map candidate_in (live_rows c.rows)) → Comes m p c
+    → c.reports ≡ map report_of (live_rows c.rows) → c.server ≡ elected_among (candidate m) (map candidate_in (live_rows c.rows)) → IsFoundNext m p c
 comes m p c rows told server =
     let q = ticked ∷ p in
     let shows : IsShown m (view m q) c.rows = rows-show m q (peers_ticked ∷ peers_of m p) c.rows (peers-ticked m p) rows in
@@ -43,7 +43,7 @@ comes m p c rows told server =
 
 -- what is found in the rows that the peer lists will show
 pub comes-in : (m : Member) (p : List Entry) (setup : Setup) (mi : Mi) (t : Table) (c : Found) → m.setup ≡ setup → m.mi ≡ mi → PeersStandFor (own m) t (peers_of m p)
-    → IsIn (candidate_by setup mi) (rows_shown_later t) c → Comes m p c
+    → IsIn (candidate_by setup mi) (rows_shown_later t) c → IsFoundNext m p c
 comes-in m p setup mi t c setup_is mi_is stands found =
     comes m p c (λ at. ap (λ (rs : List Row). slice_get rs at) found.rows ∙ later-stands (own m) t (peers_of m p) stands at) found.reports
     (found.server ∙ ap (λ (x : Candidate). elected_among x (map candidate_in (live_rows c.rows))) (rw (setup_is, mi_is) refl))
@@ -55,10 +55,10 @@ ahead-passed setup mi before after c ahead same is =
     let f = ahead.found is in
     record { rows = f.rows ∙ sym same; reports = f.reports; server = f.server }
 
-pub keys-come : (m : Member) (p : List Entry) (c : Found) → Comes m p c → ticked_with m p c ≡ keys_of m (ticked ∷ p)
+pub keys-come : (m : Member) (p : List Entry) (c : Found) → IsFoundNext m p c → ticked_with m p c ≡ keys_of m (ticked ∷ p)
 keys-come m p c f = ap (λ (o : Option Mi). keys_ticked (is_some o) ∷ keys_of m p) (f.server ∙ view-server m (ticked ∷ p)) ∙ sym (keys-ticked m p)
 
-led-same : (m : Member) (p : List Entry) (c : Found) → Comes m p c → led_by c.server m.mi (ticked_with m p c) c.reports ≡ led m (view m (ticked ∷ p))
+led-same : (m : Member) (p : List Entry) (c : Found) → IsFoundNext m p c → led_by c.server m.mi (ticked_with m p c) c.reports ≡ led m (view m (ticked ∷ p))
 led-same m p c f =
     let q = ticked ∷ p in
     let v = view m q in
@@ -73,13 +73,13 @@ pub passed-same : (h : List Keying) (server now : Option Mi) (serves is : Bool) 
 passed-same h server now serves is told said a b c = rw (a, b, c) refl
 
 -- the keys after what begins
-pub past-begun : (m : Member) (p : List Entry) (c : Found) → Comes m p c → (beginning (ticked_with m p c) (led_by c.server m.mi (ticked_with m p c) c.reports)).past ≡ keys_of m (begun_past m p)
+pub past-begun : (m : Member) (p : List Entry) (c : Found) → IsFoundNext m p c → (beginning (ticked_with m p c) (led_by c.server m.mi (ticked_with m p c) c.reports)).past ≡ keys_of m (begun_past m p)
 past-begun m p c f =
     let v = view m (ticked ∷ p) in
     ap (λ (b : Option Beginning). (beginning (ticked_with m p c) b).past) (led-same m p c f) ∙ ap (λ (g : List Keying). (beginning g (led m v)).past) (keys-come m p c f) ∙ keys-begun m (led m v) (ticked ∷ p)
 
 -- what ends and begins
-pub changes-begun : (m : Member) (p : List Entry) (c : Found) → Comes m p c
+pub changes-begun : (m : Member) (p : List Entry) (c : Found) → IsFoundNext m p c
     → ended (keys_of m p) c.server ++ (beginning (ticked_with m p c) (led_by c.server m.mi (ticked_with m p c) c.reports)).changes
     ≡ ended (view m p).keys (view m (ticked ∷ p)).server ++ (beginning (view m (ticked ∷ p)).keys (led m (view m (ticked ∷ p)))).changes
 changes-begun m p c f =

@@ -18,7 +18,7 @@ use Rattle.mka_station.specs.Tick.{ended, ticked_past, says_at, tick_turn}
 use Rattle.mka_station.specs.Drawing.{makes_next}
 use Rattle.mka_station.specs.Standing.{State, StandsFor}
 use Rattle.mka_station.specs.inside.Due.{shown_by, is_due_after}
-use Rattle.mka_station.specs.inside.Found.{Found, Comes}
+use Rattle.mka_station.specs.inside.Found.{Found, IsFoundNext}
 use Rattle.mka_station.specs.inside.Quiet.{IsQuiet, IsQuietTurn}
 use Rattle.mka_station.proofs.PeerViews.{led_by, ticked_with, past-begun, changes-begun}
 use Rattle.mka_station.proofs.Ticks.{past-keys, past-installed, past-said, reacts}
@@ -51,13 +51,13 @@ no-sak : (m : Member) (p : List Entry) (seen : Seen) (any : Secret) → makes_ne
 no-sak m p seen any unmade = sym (unsaid (makes_next m p seen) (Some any) unmade)
 
 -- the keys behind a quiet tick
-quiet-keys : (m : Member) (p : List Entry) (c : Found) (seen : Seen) (any : Secret) → Comes m p c → IsStill (is_some c.server) (keys_of m p) → makes_next m p seen ≡ false
+quiet-keys : (m : Member) (p : List Entry) (c : Found) (seen : Seen) (any : Secret) → IsFoundNext m p c → IsStill (is_some c.server) (keys_of m p) → makes_next m p seen ≡ false
     → keys_ticked (is_some c.server) ∷ keys_of m p ≡ keys_of m (ticked_past m seen any p)
 quiet-keys m p c seen any comes still unmade =
     sym (ap (λ (b : Option Beginning). (beginning (ticked_with m p c) b).past) (none-leads m p c still)) ∙ past-begun m p c comes
     ∙ past-keys m p c seen any None m.setup.conf comes (no-sak m p seen any unmade) refl
 
-quiet-silent : (m : Member) (s : State) (p : List Entry) (c : Found) (seen : Seen) (any : Secret) → StandsFor m s p → Comes m p c → IsQuiet s c (keys_of m p) → makes_next m p seen ≡ false → says_at m seen any p ≡ None
+quiet-silent : (m : Member) (s : State) (p : List Entry) (c : Found) (seen : Seen) (any : Secret) → StandsFor m s p → IsFoundNext m p c → IsQuiet s c (keys_of m p) → makes_next m p seen ≡ false → says_at m seen any p ≡ None
 quiet-silent m s p c seen any stands comes quiet unmade =
     let h = keys_of m p in
     let undue : is_due_after s.spoken (shown_by c.rows c.server (keys_of m (ticked_past m seen any p))) ≡ false =
@@ -65,7 +65,7 @@ quiet-silent m s p c seen any stands comes quiet unmade =
     ∙ ap (is_due_after s.spoken) (shown-still (is_some c.server) h c.rows c.server quiet.still) ∙ quiet.undue in
     sym (past-said m s c p seen any stands comes) ∙ unsaid (is_due_after s.spoken (shown_by c.rows c.server (keys_of m (ticked_past m seen any p)))) _ undue
 
-pub quiet-turn : (m : Member) (s : State) (p : List Entry) (c : Found) (seen : Seen) (any : Secret) → StandsFor m s p → Comes m p c → IsQuiet s c (keys_of m p) → makes_next m p seen ≡ false
+pub quiet-turn : (m : Member) (s : State) (p : List Entry) (c : Found) (seen : Seen) (any : Secret) → StandsFor m s p → IsFoundNext m p c → IsQuiet s c (keys_of m p) → makes_next m p seen ≡ false
     → IsQuietTurn m p seen any (is_some c.server)
 quiet-turn m s p c seen any stands comes quiet unmade =
     record {
@@ -77,13 +77,13 @@ quiet-turn m s p c seen any stands comes quiet unmade =
     }
 
 -- what changes at a quiet tick: nothing
-none-passes : (m : Member) (p : List Entry) (c : Found) → Comes m p c → IsStill (is_some c.server) (keys_of m p)
+none-passes : (m : Member) (p : List Entry) (c : Found) → IsFoundNext m p c → IsStill (is_some c.server) (keys_of m p)
     → ended (keys_of m p) c.server ++ (beginning (ticked_with m p c) (led_by c.server m.mi (ticked_with m p c) c.reports)).changes ≡ []
 none-passes m p c comes still =
     ap (λ (xs : List Change). xs ++ (beginning (ticked_with m p c) (led_by c.server m.mi (ticked_with m p c) c.reports)).changes) (none-ends (keys_of m p) c.server still)
     ∙ ap (λ (b : Option Beginning). (beginning (ticked_with m p c) b).changes) (none-leads m p c still)
 
-pub quiet-reaction : (m : Member) (s : State) (p : List Entry) (c : Found) (seen : Seen) (any : Secret) → StandsFor m s p → Comes m p c → IsQuiet s c (keys_of m p) → makes_next m p seen ≡ false
+pub quiet-reaction : (m : Member) (s : State) (p : List Entry) (c : Found) (seen : Seen) (any : Secret) → StandsFor m s p → IsFoundNext m p c → IsQuiet s c (keys_of m p) → makes_next m p seen ≡ false
     → record { heard = None; server = None; changes = []; sent = None } ≡ (tick_turn m seen any p).reaction
 quiet-reaction m s p c seen any stands comes quiet unmade =
     reacts m s c p seen any None [] [] [] None stands comes

@@ -23,7 +23,7 @@ use Rattle.mka_station.specs.Announcing.{shown, same_option, lowest_in, frame_of
 use Rattle.mka_station.specs.Tick.{new_server, ended, led, made, with_sent, install_changes, roster_at, begun_past, ticked_past, says_at, tick_turn}
 use Rattle.mka_station.specs.Drawing.{makes_next}
 use Rattle.mka_station.specs.Standing.{State, StandsFor, spoken_at}
-use Rattle.mka_station.specs.inside.Found.{Found, Comes}
+use Rattle.mka_station.specs.inside.Found.{Found, IsFoundNext}
 use Rattle.mka_station.specs.inside.Saying.{lowest_of}
 use Rattle.sak_exchange.proofs.Public.{by_test}
 use Rattle.mka_station.specs.inside.Rows.{IsShown}
@@ -48,7 +48,7 @@ pub past-spoken : (m : Member) (seen : Seen) (any : Secret) (p : List Entry) →
 past-spoken m seen any p =
     spoken-installed (roster_at m p) (made m (view m (ticked ∷ p)) seen any) (begun_past m p) ∙ spoken-begun (led m (view m (ticked ∷ p))) (ticked ∷ p)
 
-pub past-keys : (m : Member) (p : List Entry) (c : Found) (seen : Seen) (any : Secret) (sak : Option Secret) (conf : Bool) → Comes m p c → sak ≡ cond (makes_next m p seen) (Some any) None → conf ≡ m.setup.conf
+pub past-keys : (m : Member) (p : List Entry) (c : Found) (seen : Seen) (any : Secret) (sak : Option Secret) (conf : Bool) → IsFoundNext m p c → sak ≡ cond (makes_next m p seen) (Some any) None → conf ≡ m.setup.conf
     → keys_made (Some (made_roster m.mi c.reports)) (made_by m.base m.mi (keys_of m (begun_past m p)) conf sak) (keys_of m (begun_past m p)) ≡ keys_of m (ticked_past m seen any p)
 past-keys m p c seen any sak conf comes is same =
     let h = keys_of m (begun_past m p) in
@@ -57,7 +57,7 @@ past-keys m p c seen any sak conf comes is same =
     ∙ ap (λ (k : Option Key). keys_made (roster_at m p) k h) (key-is m p seen any sak is)
     ∙ keys-made m (roster_at m p) (made m (view m (ticked ∷ p)) seen any) (begun_past m p)
 
-pub past-installed : (m : Member) (p : List Entry) (c : Found) (seen : Seen) (any : Secret) (sak : Option Secret) (conf : Bool) → Comes m p c → sak ≡ cond (makes_next m p seen) (Some any) None → conf ≡ m.setup.conf
+pub past-installed : (m : Member) (p : List Entry) (c : Found) (seen : Seen) (any : Secret) (sak : Option Secret) (conf : Bool) → IsFoundNext m p c → sak ≡ cond (makes_next m p seen) (Some any) None → conf ≡ m.setup.conf
     → install_changes (keys_of m (begun_past m p)) (Some (made_roster m.mi c.reports)) (made_by m.base m.mi (keys_of m (begun_past m p)) conf sak) ≡ install_changes (view m (ticked ∷ p)).keys (roster_at m p) (made m (view m (ticked ∷ p)) seen any)
 past-installed m p c seen any sak conf comes is same =
     let h = keys_of m (begun_past m p) in
@@ -89,13 +89,13 @@ past-count m seen any p =
 past-view : (m : Member) (seen : Seen) (any : Secret) (p : List Entry) → view m (ticked_past m seen any p) ≡ record (view m (ticked ∷ p)) { keys = keys_of m (ticked_past m seen any p) }
 past-view m seen any p = view-same m (ticked ∷ p) (ticked_past m seen any p) (past-peers m seen any p ∙ sym (peers-ticked m p))
 
-past-server : (m : Member) (c : Found) (p : List Entry) (seen : Seen) (any : Secret) → Comes m p c → c.server ≡ (view m (ticked_past m seen any p)).server
+past-server : (m : Member) (c : Found) (p : List Entry) (seen : Seen) (any : Secret) → IsFoundNext m p c → c.server ≡ (view m (ticked_past m seen any p)).server
 past-server m c p seen any comes = comes.server ∙ ap (λ (v : View). v.server) (sym (past-view m seen any p))
 
-past-shows : (m : Member) (c : Found) (p : List Entry) (seen : Seen) (any : Secret) → Comes m p c → IsShown m (view m (ticked_past m seen any p)) c.rows
+past-shows : (m : Member) (c : Found) (p : List Entry) (seen : Seen) (any : Secret) → IsFoundNext m p c → IsShown m (view m (ticked_past m seen any p)) c.rows
 past-shows m c p seen any comes = rows-show m (ticked_past m seen any p) (peers_ticked ∷ peers_of m p) c.rows (past-peers m seen any p) comes.rows
 
-past-sees : (m : Member) (s : State) (c : Found) (p : List Entry) (seen : Seen) (any : Secret) (mn : ℕ) → StandsFor m s p → Comes m p c → mn ≡ last_sent (peers_ticked ∷ peers_of m p) + 1
+past-sees : (m : Member) (s : State) (c : Found) (p : List Entry) (seen : Seen) (any : Secret) (mn : ℕ) → StandsFor m s p → IsFoundNext m p c → mn ≡ last_sent (peers_ticked ∷ peers_of m p) + 1
     → Sees m s c (view m (ticked_past m seen any p)) mn (keys_of m (ticked_past m seen any p))
 past-sees m s c p seen any mn stands comes number =
     let q = ticked_past m seen any p in
@@ -109,13 +109,13 @@ past-sees m s c p seen any mn stands comes number =
       keys = sym (view-keys m q);
     }
 
-pub past-shown : (m : Member) (c : Found) (p : List Entry) (seen : Seen) (any : Secret) → Comes m p c
+pub past-shown : (m : Member) (c : Found) (p : List Entry) (seen : Seen) (any : Secret) → IsFoundNext m p c
     → shown_by c.rows c.server (keys_of m (ticked_past m seen any p)) ≡ shown (view m (ticked_past m seen any p))
 past-shown m c p seen any comes =
     let q = ticked_past m seen any p in
     shown-is m (view m q) c.rows (past-shows m c p seen any comes) c.server (keys_of m q) (past-server m c p seen any comes) (sym (view-keys m q))
 
-pub past-said : (m : Member) (s : State) (c : Found) (p : List Entry) (seen : Seen) (any : Secret) → StandsFor m s p → Comes m p c
+pub past-said : (m : Member) (s : State) (c : Found) (p : List Entry) (seen : Seen) (any : Secret) → StandsFor m s p → IsFoundNext m p c
     → said_by s c (s.peers.sent.last + 1) (lowest_of (keys_of m p) seen) (keys_of m (ticked_past m seen any p)) ≡ says_at m seen any p
 past-said m s c p seen any stands comes =
     let q = ticked_past m seen any p in
@@ -124,7 +124,7 @@ past-said m s c p seen any stands comes =
 
 -- ---- the reaction
 
-pub reacts : (m : Member) (s : State) (c : Found) (p : List Entry) (seen : Seen) (any : Secret) (server : Option (Option Mi)) (changes passed inst : List Change) (frame : Option (List ℕ)) → StandsFor m s p → Comes m p c
+pub reacts : (m : Member) (s : State) (c : Found) (p : List Entry) (seen : Seen) (any : Secret) (server : Option (Option Mi)) (changes passed inst : List Change) (frame : Option (List ℕ)) → StandsFor m s p → IsFoundNext m p c
     → server ≡ cond (same_option same_mi s.server c.server) None (Some c.server)
     → changes ≡ passed ++ inst
     → passed ≡ ended (view m p).keys (view m (ticked ∷ p)).server ++ (beginning (view m (ticked ∷ p)).keys (led m (view m (ticked ∷ p)))).changes

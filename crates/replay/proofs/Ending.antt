@@ -16,7 +16,7 @@ use Rattle.lan_base.specs.declared.sink.Unwritten.TheVariants as whys
 use Rattle.trace_acts.specs.Halts.{halt_of_unwritten}
 use Rattle.replay.specs.Sinks.{Sunk, Wrote, BrokeOff, WroteSome, Fails, joined}
 use Rattle.replay.specs.Runs.{most_input, Performing, within, WasPerformed, WasHalted, WasCut}
-use Rattle.replay.specs.Runs.{EndsBy, IsTaken, IsReplayed}
+use Rattle.replay.specs.Runs.{EndsBy, IsTakenFrom, IsReplayed}
 use Rattle.replay.proofs.Written.{after-after, wrote-held, wrote-counts, Grew}
 
 -- ---- halts
@@ -186,7 +186,7 @@ module _ {Act World M : Type 0} (p : Performing Act World) (IsSuch : World → T
   pub took : (at_end : World → List (List ℕ)) (left now : Sourced) (old new : M)
       (r : Result (Unit {0}) (End Halt)) → IsFresh old
       → Takes DidLines most_input left now old new r
-      → IsTaken p (record { at_end = at_end; before = texts }) left now (see old) (see new)
+      → IsTakenFrom p (record { at_end = at_end; before = texts }) left now (see old) (see new)
       × ((see old).faults ≤ (see new).faults)
   took at_end left now old new r fresh h =
       let l = last-did most_input _ _ _ left now h.between new r h.ends in

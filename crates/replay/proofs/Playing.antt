@@ -25,7 +25,7 @@ use Rattle.lan_schedule.specs.Standing.{StandsFor, Closes}
 use Rattle.lan_schedule.proofs.Public.{way-begun, way-front, does-whole, does-whole-early}
 use Rattle.replay.specs.Sinks.{Sunk, Wrote, BrokeOff, WroteSome, Fails}
 use Rattle.replay.specs.Shown.{summary_of}
-use Rattle.replay.specs.Runs.{most_input, WasPerformed, WasHalted, WasCut, EndsBy, IsTaken}
+use Rattle.replay.specs.Runs.{most_input, WasPerformed, WasHalted, WasCut, EndsBy, IsTakenFrom}
 use Rattle.replay.specs.Runs.{IsReplayed, Shows}
 use Rattle.replay.specs.OneGroup.{one_group, whole, IsSettled}
 use Rattle.replay.specs.inside.Ended.{answered, ended}
@@ -301,8 +301,8 @@ module _ {P K : Type 0} (given : Given) (Took : K → Report → K → Type 0)
 abbrev summed : Shows World
 summed = record { at_end = λ w. summary_of w.run ∷ []; before = λ w. [] }
 
-taken-then : (left now : Sourced) (old mid new : Sunk) → IsTaken one_group summed left now old mid
-    → Grew mid new → IsTaken one_group summed left now old new
+taken-then : (left now : Sourced) (old mid new : Sunk) → IsTakenFrom one_group summed left now old mid
+    → Grew mid new → IsTakenFrom one_group summed left now old new
 taken-then left now old mid new t g = record {
   earlier = t.earlier;
   piece = t.piece;

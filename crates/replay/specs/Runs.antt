@@ -105,7 +105,7 @@ EndsBy p IsSuch shows text left now old new (Err ends.ReadFault) =
 
 -- Octets were taken: earlier ones, and then a piece that was asked for at once. All lines that end in
 -- the earlier ones were performed and shown before that.
-pub record IsTaken {Act World : Type 0} (p : Performing Act World) (shows : Shows World)
+pub record IsTakenFrom {Act World : Type 0} (p : Performing Act World) (shows : Shows World)
     (left now : Sourced) (old new : Sunk) : Type 0 where
   pub earlier : List ℕ
   pub piece : List ℕ
@@ -121,7 +121,7 @@ pub record IsTaken {Act World : Type 0} (p : Performing Act World) (shows : Show
 pub record EndsRun {Act World : Type 0} (p : Performing Act World) (IsSuch : World → Type 0)
     (shows : Shows World) (text : List ℕ) (left now : Sourced) (old new : Sunk)
     (result : Result (Unit {0}) (End Halt)) : Type 0 where
-  pub taken : IsTaken p shows left now old new
+  pub taken : IsTakenFrom p shows left now old new
   pub ends : EndsBy p IsSuch shows text left now old new result
 
 -- a source was replayed: how its text was, if it tells one; and that its faults are those of the

@@ -9,7 +9,7 @@ use Rattle.rollover_notes.specs.declared.counts.Counts.{Counts}
 use Rattle.rollover_notes.specs.declared.unready.Unready.{Unready}
 use Rattle.rollover_notes.specs.Events.{Event}
 use Rattle.rollover_notes.specs.Counted.{AreUnreadyOf, Pair, is_unready_of, pair_cmp, pair_of, unready_of}
-use Rattle.rollover_notes.specs.Standing.{Kept, MemberKey, StandsFor, member_key_cmp}
+use Rattle.rollover_notes.specs.Standing.{KeptRollovers, MemberKey, StandsFor, member_key_cmp}
 use Rattle.rollover_notes.specs.inside.Listing.{IsListing, unready_at}
 use Rattle.rollover_notes.proofs.Ties.{equal, exact-pair}
 
@@ -45,7 +45,7 @@ module _ (packets : List (MemberKey × ℕ)) where
           ap (λ (q : Pair). Some (unready_kept q e.1)) (sym same)
       go false is later = later
 
-pub listed : (h : List Event) (kept : Kept) (us : List Unready) → StandsFor h kept
+pub listed : (h : List Event) (kept : KeptRollovers) (us : List Unready) → StandsFor h kept
     → IsListing kept.packets kept.unready us → AreUnreadyOf h us
 listed h kept us stands list =
     subst (AreUnreadyOf h) (sym list.each) (record {

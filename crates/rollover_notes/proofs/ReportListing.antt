@@ -8,7 +8,7 @@ use Rattle.std.proofs.lemmas.List.{append-nil}
 use Rattle.rollover_notes.specs.declared.report.Report.{Report}
 use Rattle.rollover_notes.specs.Events.{Event}
 use Rattle.rollover_notes.specs.Reported.{AreReportsOf, is_report_of, member_key_of, report_of}
-use Rattle.rollover_notes.specs.Standing.{Kept, MemberKey, StandsFor, member_key_cmp}
+use Rattle.rollover_notes.specs.Standing.{KeptRollovers, MemberKey, StandsFor, member_key_cmp}
 use Rattle.rollover_notes.specs.inside.Listing.{IsReportListing, report_at}
 use Rattle.rollover_notes.proofs.Ties.{equal, exact-member-key}
 
@@ -38,7 +38,7 @@ found-kept at (e ∷ es) = go (is_at (member_key_cmp at) e.0) refl (found-kept a
         ap (λ (k : MemberKey). Some (report_of k e.1)) (sym (exact-member-key at e.0 (equal (member_key_cmp at e.0) is)))
     go false is later = later
 
-pub reports-listed : (h : List Event) (kept : Kept) (rs : List Report) → StandsFor h kept
+pub reports-listed : (h : List Event) (kept : KeptRollovers) (rs : List Report) → StandsFor h kept
     → IsReportListing kept.packets rs → AreReportsOf h rs
 reports-listed h kept rs stands list =
     subst (AreReportsOf h) (sym list.each) (record {

@@ -21,7 +21,7 @@ use Rattle.rollover_notes.specs.Speaking.{Member, Said, said_of}
 use Rattle.rollover_notes.specs.Reports.{id_in, is_key, uses_of}
 use Rattle.rollover_notes.specs.Timings.{is_late_frame}
 use Rattle.rollover_notes.specs.Counted.{Pair, more, pair_cmp, unready_counts}
-use Rattle.rollover_notes.specs.Standing.{Kept, MemberKey, StandsFor, group_id_cmp, group_key_cmp, has, number_sci_cmp}
+use Rattle.rollover_notes.specs.Standing.{KeptRollovers, MemberKey, StandsFor, group_id_cmp, group_key_cmp, has, number_sci_cmp}
 use Rattle.rollover_notes.specs.inside.Putting.{Adds, CountsMore, Puts, PutsFirst, PutsShown}
 use Rattle.rollover_notes.proofs.Ties.{group-id-ties, group-key-ties, member-ties, number-sci-ties}
 
@@ -76,7 +76,7 @@ ordered-more h group key = go (is_given h group key) refl
         sym (ap (λ b. cond b (in_order h) (in_order h ++ key ∷ [])) (given-stands h group key is))
     go false is = refl
 
-module _ (h : List Event) (kept : Kept) (stands : StandsFor h kept) where
+module _ (h : List Event) (kept : KeptRollovers) (stands : StandsFor h kept) where
   pub gave : (group : ℕ) (id : KeyId) (key : ℕ) (ids : List (GroupId × ℕ)) (groups : List (ℕ × ℕ)) (ks : List ℕ)
       → PutsFirst group_id_cmp (group_id group id) key kept.ids ids
       → Adds group_key_cmp (group, key) kept.groups groups

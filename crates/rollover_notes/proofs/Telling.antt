@@ -9,12 +9,12 @@ use Rattle.rollover_notes.specs.Events.{Event, Used}
 use Rattle.rollover_notes.specs.Speaking.{Member}
 use Rattle.rollover_notes.specs.Timings.{is_late_frame, timing, timing_by}
 use Rattle.rollover_notes.specs.Counted.{Pair, counted, pair_cmp, timing_to, unready_counts}
-use Rattle.rollover_notes.specs.Standing.{Kept, StandsFor, group_key_cmp, has, member_key_cmp}
+use Rattle.rollover_notes.specs.Standing.{KeptRollovers, StandsFor, group_key_cmp, has, member_key_cmp}
 use Rattle.rollover_notes.specs.inside.Walking.{IsToldToAll, Speaker, said_by, timing_from, walked, is_late_to, counts_at}
 use Rattle.rollover_notes.proofs.Walks.{timing_of, walked-all}
 use Rattle.rollover_notes.proofs.Lateness.{late-to-all}
 
-module _ (h : List Event) (kept : Kept) (stands : StandsFor h kept) (frame : RightFrame) where
+module _ (h : List Event) (kept : KeptRollovers) (stands : StandsFor h kept) (frame : RightFrame) where
   -- what the frame is to a member, by what is kept
   abbrev pub kept_timing : Member → Timing
   kept_timing m =

@@ -1,8 +1,8 @@
 -- What callers see of what is kept.
 use Rattle.rollover_notes.specs.declared.notes.RolloverNotes.TheInside.{Inside}
-use Rattle.rollover_notes.specs.Standing.{Kept}
+use Rattle.rollover_notes.specs.Standing.{KeptRollovers}
 
-abbrev pub kept_of : Inside → Kept
+abbrev pub kept_of : Inside → KeptRollovers
 kept_of n = record {
   ids = n.givings.ids.entries;
   groups = n.givings.groups.keys;

@@ -41,7 +41,7 @@ has cmp keys k = list_any (is_at (cmp k)) keys
 
 -- ---- what is kept
 
-pub record Kept : Type 0 where
+pub record KeptRollovers : Type 0 where
   pub ids : List (GroupId × ℕ)
   pub groups : List (ℕ × ℕ)
   pub order : List ℕ
@@ -55,7 +55,7 @@ pub record Kept : Type 0 where
 -- by identifier in a group its key, the keys given in each group, and the keys in order; by member and
 -- key the first report and the first time; what each member said last, and the speaker of each SCI; and
 -- how many frames came early, joining and late
-pub record StandsFor (h : List Event) (kept : Kept) : Type 0 where
+pub record StandsFor (h : List Event) (kept : KeptRollovers) : Type 0 where
   pub ids : (it : GroupId) → lookup (is_at (group_id_cmp it)) kept.ids ≡ key_of h it
   pub groups : (group key : ℕ) → has group_key_cmp kept.groups (group, key) ≡ is_given h group key
   pub order : kept.order ≡ in_order h

@@ -36,9 +36,9 @@ pub struct RolloverNotes {
 }
 
 impl Model for RolloverNotes {
-    ghost use Rattle.rollover_notes.specs.Standing.{Kept};
+    ghost use Rattle.rollover_notes.specs.Standing.{KeptRollovers};
 
-    ghost Value = { Kept };
+    ghost Value = { KeptRollovers };
 
     ghost view = { λ n. record {
       ids = n.givings.ids.entries;

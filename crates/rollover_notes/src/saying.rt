@@ -16,7 +16,7 @@ pub type Member = (u32, Mi);
 /// What counts of an MKPDU: under which SCI, when, and which peers it lists, live or potential.
 #[derive(Drop)]
 pub struct Saying {
-    kept: Kept,
+    kept: KeptSaying,
 }
 
 impl Model for Saying {
@@ -30,7 +30,7 @@ impl Model for Saying {
 
 /// Of one that lists nobody, and of one that lists peers.
 #[derive(Drop)]
-enum Kept {
+enum KeptSaying {
     Alone { sci: Sci, nanos: u64 },
     Listing(Box<Listing>),
 }
@@ -50,7 +50,7 @@ impl Saying {
         let mut listed = Vec::from_slice(alloc, said.live.as_slice())?;
         listed.extend_from_slice(said.potential.as_slice())?;
         Ok(Saying {
-            kept: Kept::of(alloc, said.sci, nanos, listed)?,
+            kept: KeptSaying::of(alloc, said.sci, nanos, listed)?,
         })
     }
 
@@ -59,8 +59,8 @@ impl Saying {
         ensures { result ≡ self.now.sci }
     {
         match &self.kept {
-            Kept::Alone { sci, .. } => *sci,
-            Kept::Listing(listing) => listing.sci,
+            KeptSaying::Alone { sci, .. } => *sci,
+            KeptSaying::Listing(listing) => listing.sci,
         }
     }
 
@@ -69,8 +69,8 @@ impl Saying {
         ensures { result.now ≡ self.now.listed }
     {
         match &self.kept {
-            Kept::Alone { .. } => &[],
-            Kept::Listing(listing) => listing.listed.as_slice(),
+            KeptSaying::Alone { .. } => &[],
+            KeptSaying::Listing(listing) => listing.listed.as_slice(),
         }
     }
 
@@ -85,20 +85,20 @@ impl Saying {
         ensures { result ≡ self.now.nanos }
     {
         match &self.kept {
-            Kept::Alone { nanos, .. } => *nanos,
-            Kept::Listing(listing) => listing.nanos,
+            KeptSaying::Alone { nanos, .. } => *nanos,
+            KeptSaying::Listing(listing) => listing.nanos,
         }
     }
 }
 
-impl Kept {
-    fn of(alloc: Global, sci: Sci, nanos: u64, listed: Vec<Peer>) -> Result<Kept, AllocError>
+impl KeptSaying {
+    fn of(alloc: Global, sci: Sci, nanos: u64, listed: Vec<Peer>) -> Result<KeptSaying, AllocError>
         ensures { IfOk result (λ kept. said_in kept ≡ record { sci = sci; nanos = nanos; listed = listed.items }) }
     {
         if listed.is_empty() {
-            return Ok(Kept::Alone { sci, nanos });
+            return Ok(KeptSaying::Alone { sci, nanos });
         }
         let listing = Listing { sci, nanos, listed };
-        Ok(Kept::Listing(Box::new(alloc, listing)?))
+        Ok(KeptSaying::Listing(Box::new(alloc, listing)?))
     }
 }

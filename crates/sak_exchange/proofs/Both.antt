@@ -2,11 +2,11 @@
 use Rattle.std.proofs.Common.{◌≡◌, ℕ, ◌≤◌, List, [], ◌∷◌, Some, length, subst, arith}
 use Rattle.sak_exchange.specs.declared.held_key.Key.{Key}
 use Rattle.sak_exchange.specs.Histories.{Keying, last_key}
-use Rattle.sak_exchange.specs.Held.{received, latest, old, Kept}
+use Rattle.sak_exchange.specs.Held.{received, latest, old, KeepsRules}
 use Rattle.sak_exchange.specs.Lives.{both}
 use Rattle.sak_exchange.proofs.Shape.{IsBeside, none, one, two, shape, latest-none, latest-one, latest-two}
 
-pub received-both : (base : ℕ) (h : List Keying) → Kept base h → received h ≡ both (latest h) (old h)
+pub received-both : (base : ℕ) (h : List Keying) → KeepsRules base h → received h ≡ both (latest h) (old h)
 received-both base h kept =
     elim (shape base h kept) [
       | none r ↦ let keys = latest-none h r in rw (keys.0, keys.1) r
@@ -14,7 +14,7 @@ received-both base h kept =
       | two l o r last b ↦ let keys = latest-two h l o r last b.less in rw (keys.0, keys.1) r
     ]
 
-pub at-most-two : (base : ℕ) (h : List Keying) → Kept base h → length (received h) ≤ 2
+pub at-most-two : (base : ℕ) (h : List Keying) → KeepsRules base h → length (received h) ≤ 2
 at-most-two base h kept =
     elim (shape base h kept) [ none r ↦ rw r (omega arith) | one l r last ↦ rw r (omega arith) | two l o r last b ↦ rw r (omega arith) ]
 
@@ -24,7 +24,7 @@ pub record IsFirst (h : List Keying) (l : Key) : Type 0 where
   pub received : received h ≡ l ∷ rest
   pub last : last_key h ≡ Some l
 
-pub first-is : (base : ℕ) (h : List Keying) (l : Key) → Kept base h → latest h ≡ Some l → IsFirst h l
+pub first-is : (base : ℕ) (h : List Keying) (l : Key) → KeepsRules base h → latest h ≡ Some l → IsFirst h l
 first-is base h l kept is =
     elim (shape base h kept) [
       | none r ↦ let keys = latest-none h r in absurd (cc (keys.0, is))
@@ -44,7 +44,7 @@ pub keys-of : (h : List Keying) (l o : Key) → AreTwo h l o → (latest h ≡ S
 keys-of h l o are = latest-two h l o are.received are.last are.beside.less
 
 -- where an old key is held
-pub beside-old : (base : ℕ) (h : List Keying) (o : Key) → Kept base h → old h ≡ Some o → (l : Key) × AreTwo h l o
+pub beside-old : (base : ℕ) (h : List Keying) (o : Key) → KeepsRules base h → old h ≡ Some o → (l : Key) × AreTwo h l o
 beside-old base h o kept is =
     elim (shape base h kept) [
       | none r ↦ let keys = latest-none h r in absurd (cc (keys.1, is))
@@ -54,7 +54,7 @@ beside-old base h o kept is =
     ]
 
 -- where both are
-pub are-two : (base : ℕ) (h : List Keying) (l o : Key) → Kept base h → latest h ≡ Some l → old h ≡ Some o → AreTwo h l o
+pub are-two : (base : ℕ) (h : List Keying) (l o : Key) → KeepsRules base h → latest h ≡ Some l → old h ≡ Some o → AreTwo h l o
 are-two base h l o kept first second =
     let found = beside-old base h o kept second in
     let keys = keys-of h found.0 o found.1 in

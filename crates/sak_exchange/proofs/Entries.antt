@@ -7,7 +7,7 @@ use Rattle.lan_base.specs.declared.address.Mi.{Mi}
 use Rattle.lan_base.specs.AssociationNumbers.{same_an}
 use Rattle.sak_exchange.specs.declared.held_key.Key.{Key}
 use Rattle.sak_exchange.specs.Histories.{Keying, ticked, installed, began, clock, installs, last_key, begun_at, has_begun, last_begun}
-use Rattle.sak_exchange.specs.Held.{is_retire_time_ago, ends, received, has_epoch, latest, old, transmitting, is_latest, Kept}
+use Rattle.sak_exchange.specs.Held.{is_retire_time_ago, ends, received, has_epoch, latest, old, transmitting, is_latest, KeepsRules}
 use Rattle.sak_exchange.specs.Beginning.{retired}
 use Rattle.sak_exchange.specs.Lives.{apart}
 use Rattle.sak_exchange.proofs.Cases.{by_test, by_option}
@@ -55,7 +55,7 @@ ends-old h l o last b =
     let never : is_retire_time_ago (clock h + 1) (begun_at h by.later) ≡ false = rw same ago in absurd (cc (by.ago, never)))
     (λ t. t ∙ sym ago))
 
-pub keys-ticked : (base : ℕ) (h : List Keying) → Kept base h → AreKeys (ticked true ∷ h) (latest h) (cond (is_over h) None (old h))
+pub keys-ticked : (base : ℕ) (h : List Keying) → KeepsRules base h → AreKeys (ticked true ∷ h) (latest h) (cond (is_over h) None (old h))
 keys-ticked base h kept =
     let x : Keying = ticked true in
     elim (shape base h kept) [
@@ -74,7 +74,7 @@ keys-ticked base h kept =
 pub keys-dropped : (h : List Keying) → AreKeys (ticked false ∷ h) None None
 keys-dropped h = none-are (ticked false ∷ h) (received-next (ticked false) h (received h) refl ∙ all-dropped h (received h))
 
-pub keys-began : (base : ℕ) (h : List Keying) (e : ℕ) → Kept base h → AreKeys (began e ∷ h) (latest h) (old h)
+pub keys-began : (base : ℕ) (h : List Keying) (e : ℕ) → KeepsRules base h → AreKeys (began e ∷ h) (latest h) (old h)
 keys-began base h e kept =
     let x = began e in
     elim (shape base h kept) [
@@ -85,7 +85,7 @@ keys-began base h e kept =
     ]
 
 -- an install leaves the current key, if its association number is another
-pub keys-installed : (base : ℕ) (h : List Keying) (r : Option (List Mi)) (k : Key) → Kept base (installed r k ∷ h) → AreKeys (installed r k ∷ h) (Some k) (apart k.an (current h))
+pub keys-installed : (base : ℕ) (h : List Keying) (r : Option (List Mi)) (k : Key) → KeepsRules base (installed r k ∷ h) → AreKeys (installed r k ∷ h) (Some k) (apart k.an (current h))
 keys-installed base h r k kept =
     let x = installed r k in
     elim (shape base h kept.2) [
@@ -126,7 +126,7 @@ none-has-begun (installed r k ∷ h) e is = none-has-begun h e is
 none-has-begun (began f ∷ h) e is = absurd (cc (is))
 
 -- no later epoch has begun than the one that began last
-last-begun-most : (base : ℕ) (h : List Keying) (e f : ℕ) → Kept base h → last_begun h ≡ Some e → has_begun h f ≡ true → f ≤ e
+last-begun-most : (base : ℕ) (h : List Keying) (e f : ℕ) → KeepsRules base h → last_begun h ≡ Some e → has_begun h f ≡ true → f ≤ e
 last-begun-most base [] e f kept is begun = absurd (cc (is))
 last-begun-most base (ticked s ∷ h) e f kept is begun = last-begun-most base h e f kept is begun
 last-begun-most base (installed r k ∷ h) e f kept is begun = last-begun-most base h e f kept.2 is begun
@@ -140,7 +140,7 @@ last-begun-most base (began n ∷ h) e f kept is begun =
     (λ t. let earlier = rw t at begun in let most = begun-upto base h f kept.1 earlier in omega arith)
 
 -- the key that began last is the last one, where that has begun
-last-began : (base : ℕ) (h : List Keying) (l : Key) (e : ℕ) → Kept base h → last_key h ≡ Some l → last_begun h ≡ Some e → has_begun h l.epoch ≡ true → l.epoch ≡ e
+last-began : (base : ℕ) (h : List Keying) (l : Key) (e : ℕ) → KeepsRules base h → last_key h ≡ Some l → last_begun h ≡ Some e → has_begun h l.epoch ≡ true → l.epoch ≡ e
 last-began base h l e kept last is begun =
     let most = last-begun-most base h e l.epoch kept is begun in
     let epoch = last-epoch base h l kept last in
@@ -154,7 +154,7 @@ not-last h l e is unbegun =
     (λ t. t)
 
 -- the old key is the one that began last, where the latest one hasn't begun
-old-began : (base : ℕ) (h : List Keying) (l o : Key) (e : ℕ) → Kept base h → IsBeside h l o → last_begun h ≡ Some e → has_begun h l.epoch ≡ false → o.epoch ≡ e
+old-began : (base : ℕ) (h : List Keying) (l o : Key) (e : ℕ) → KeepsRules base h → IsBeside h l o → last_begun h ≡ Some e → has_begun h l.epoch ≡ false → o.epoch ≡ e
 old-began base h l o e kept b is unbegun =
     let most = last-begun-most base h e o.epoch kept is b.started in
     by_test (nat_lt o.epoch e)
@@ -163,7 +163,7 @@ old-began base h l o e kept b is unbegun =
     let never : has_begun h e ≡ false = rw same unbegun in absurd (cc (has, never)))
     (λ t. let least = ltb-false o.epoch e t in omega arith)
 
-transmits-after : (base : ℕ) (h : List Keying) (e : ℕ) → Kept base h → last_begun h ≡ Some e → find (has_epoch e) (received h) ≡ current h
+transmits-after : (base : ℕ) (h : List Keying) (e : ℕ) → KeepsRules base h → last_begun h ≡ Some e → find (has_epoch e) (received h) ≡ current h
 transmits-after base h e kept is =
     elim (shape base h kept) [
       | none r ↦ let keys = latest-none h r in rw (keys.0, keys.1, r) refl
@@ -177,7 +177,7 @@ transmits-after base h e kept is =
           (λ t. let other : has_epoch e o ≡ true = eq-eqb o.epoch e (old-began base h l o e kept b is t) in rw (t, not-last h l e is t, other) refl))
     ]
 
-pub transmitting-is : (base : ℕ) (h : List Keying) → Kept base h → transmitting h ≡ current h
+pub transmitting-is : (base : ℕ) (h : List Keying) → KeepsRules base h → transmitting h ≡ current h
 unfolding transmitting
 transmitting-is base h kept =
     by_option (last_begun h)
@@ -194,7 +194,7 @@ current-begun h l is begun = rw (is, begun) refl
 pub current-unbegun : (h : List Keying) (l : Key) → latest h ≡ Some l → has_begun h l.epoch ≡ false → current h ≡ old h
 current-unbegun h l is unbegun = rw (is, unbegun) refl
 
-pub current-none : (base : ℕ) (h : List Keying) → Kept base h → latest h ≡ None → current h ≡ None
+pub current-none : (base : ℕ) (h : List Keying) → KeepsRules base h → latest h ≡ None → current h ≡ None
 current-none base h kept is =
     elim (shape base h kept) [
       | none r ↦ let keys = latest-none h r in rw (keys.0, keys.1) refl
@@ -212,8 +212,8 @@ retired-none : (b : Bool) (o : Option Key) → cond b o None ≡ None → cond b
 retired-none true o is = sym is
 retired-none false o is = refl
 
-pub old-retired : (base : ℕ) (h : List Keying) (o : Key) → Kept base h → retired h ≡ Some o → old (ticked true ∷ h) ≡ None
+pub old-retired : (base : ℕ) (h : List Keying) (o : Key) → KeepsRules base h → retired h ≡ Some o → old (ticked true ∷ h) ≡ None
 old-retired base h o kept is = (keys-ticked base h kept).old ∙ retired-over (is_over h) (old h) o is
 
-pub old-kept : (base : ℕ) (h : List Keying) → Kept base h → retired h ≡ None → old (ticked true ∷ h) ≡ old h
+pub old-kept : (base : ℕ) (h : List Keying) → KeepsRules base h → retired h ≡ None → old (ticked true ∷ h) ≡ old h
 old-kept base h kept is = (keys-ticked base h kept).old ∙ retired-none (is_over h) (old h) is

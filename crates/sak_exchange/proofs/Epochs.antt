@@ -5,11 +5,11 @@ use Rattle.std.specs.Prelude.{nat_lt, ◌==◌}
 use Rattle.std.specs.List.{list_any, find}
 use Rattle.sak_exchange.specs.declared.held_key.Key.{Key}
 use Rattle.sak_exchange.specs.Histories.{Keying, ticked, installed, began, installs, last_key, install_count, has_begun}
-use Rattle.sak_exchange.specs.Held.{received, latest, has_epoch, may_begin, Kept}
+use Rattle.sak_exchange.specs.Held.{received, latest, has_epoch, may_begin, KeepsRules}
 use Rattle.sak_exchange.proofs.Cases.{by_test, by_option, not-true}
 
 -- the last key has the last epoch
-pub last-epoch : (base : ℕ) (h : List Keying) (k : Key) → Kept base h → last_key h ≡ Some k → k.epoch ≡ base + install_count h
+pub last-epoch : (base : ℕ) (h : List Keying) (k : Key) → KeepsRules base h → last_key h ≡ Some k → k.epoch ≡ base + install_count h
 last-epoch base [] k kept is = absurd (cc (is))
 last-epoch base (ticked s ∷ h) k kept is = last-epoch base h k kept is
 last-epoch base (installed r n ∷ h) k kept is =
@@ -20,7 +20,7 @@ last-epoch base (installed r n ∷ h) k kept is =
 last-epoch base (began f ∷ h) k kept is = last-epoch base h k kept.1 is
 
 -- no key was installed whose epoch is later
-pub none-later : (base : ℕ) (h : List Keying) (e : ℕ) (test : ℕ → Bool) → Kept base h → base + install_count h ≤ e → list_any (λ k. nat_lt e k.epoch && test k.epoch) (installs h) ≡ false
+pub none-later : (base : ℕ) (h : List Keying) (e : ℕ) (test : ℕ → Bool) → KeepsRules base h → base + install_count h ≤ e → list_any (λ k. nat_lt e k.epoch && test k.epoch) (installs h) ≡ false
 none-later base [] e test kept most = refl
 none-later base (ticked s ∷ h) e test kept most = none-later base h e test kept most
 none-later base (installed r n ∷ h) e test kept most =
@@ -52,7 +52,7 @@ find-passes test (x ∷ xs) a is =
     (λ no. let later = rw no at is in find-passes test xs a later)
 
 -- the latest key has the last epoch
-pub latest-epoch : (base : ℕ) (h : List Keying) (k : Key) → Kept base h → latest h ≡ Some k → k.epoch ≡ base + install_count h
+pub latest-epoch : (base : ℕ) (h : List Keying) (k : Key) → KeepsRules base h → latest h ≡ Some k → k.epoch ≡ base + install_count h
 unfolding latest
 latest-epoch base h k kept is =
     by_option (last_key h)
@@ -63,7 +63,7 @@ latest-epoch base h k kept is =
     omega arith)
 
 -- no later epoch has begun
-pub begun-upto : (base : ℕ) (h : List Keying) (e : ℕ) → Kept base h → has_begun h e ≡ true → e ≤ base + install_count h
+pub begun-upto : (base : ℕ) (h : List Keying) (e : ℕ) → KeepsRules base h → has_begun h e ≡ true → e ≤ base + install_count h
 begun-upto base [] e kept b = absurd (cc (b))
 begun-upto base (ticked s ∷ h) e kept b = begun-upto base h e kept b
 begun-upto base (installed r n ∷ h) e kept b = let earlier = begun-upto base h e kept.2 b in omega arith

@@ -21,7 +21,7 @@ use Rattle.sak_exchange.specs.declared.offer.Offer.{Offer}
 use Rattle.sak_exchange.specs.declared.report.Report.{Report}
 use Rattle.sak_exchange.specs.declared.held_key.Key.{Key}
 use Rattle.sak_exchange.specs.Histories.{Keying, ticked, installed, began}
-use Rattle.sak_exchange.specs.Held.{received, latest, old, transmitting, allows, Kept, shown}
+use Rattle.sak_exchange.specs.Held.{received, latest, old, transmitting, allows, KeepsRules, shown}
 use Rattle.sak_exchange.specs.Beginning.{leads, follows, retired}
 use Rattle.sak_exchange.specs.Making.{is_none_of_own, is_one_left_out, is_latest_spent, is_one_behind, makes, is_in_roster, next_an, made_key}
 use Rattle.sak_exchange.specs.Taking.{taken}
@@ -163,7 +163,7 @@ unfolding received transmitting
 drops_all = (refl, refl)
 
 -- this life keeps the rules that the laws ask for
-keeps_the_rules : Kept 0 (ticks 31 rolled) × IsNumbered (mi 1) (ticks 31 rolled) × TakesNoneOfOwn (mi 1) (ticks 31 rolled) × IsQuiet (ticks 2 []) × IsFresh 41 (Some 12)
+keeps_the_rules : KeepsRules 0 (ticks 31 rolled) × IsNumbered (mi 1) (ticks 31 rolled) × TakesNoneOfOwn (mi 1) (ticks 31 rolled) × IsQuiet (ticks 2 []) × IsFresh 41 (Some 12)
 unfolding received latest old
 keeps_the_rules = ((refl, (refl, refl, (refl, (refl, refl, tt)))), (refl, refl, (refl, refl, tt)), tt, (refl, (refl, tt)), omega arith)
 

@@ -16,7 +16,7 @@ use Rattle.sak_exchange.specs.declared.latest.Latest.{Latest}
 use Rattle.sak_exchange.specs.declared.offer.Offer.{Offer}
 use Rattle.sak_exchange.specs.declared.held_key.Key.{Key}
 use Rattle.sak_exchange.specs.Histories.{Keying, installed, clock, last_made_at, install_count, made_count, begun_at, has_begun}
-use Rattle.sak_exchange.specs.Held.{latest, old, allows, Kept, shown, held}
+use Rattle.sak_exchange.specs.Held.{latest, old, allows, KeepsRules, shown, held}
 use Rattle.sak_exchange.specs.Taking.{greatest_of, provided, provided_new, offered_id, is_supported, leaves_none, offered_key, unwrapped_key, judged, taken}
 use Rattle.sak_exchange.specs.Making.{next_epoch}
 use Rattle.sak_exchange.specs.Outcomes.{installing}
@@ -32,7 +32,7 @@ use Rattle.sak_exchange.proofs.Currents.{allows-told, current-told}
 
 -- ---- what the install changes
 
-changes-are : (base : ℕ) (h : List Keying) (r : Option (List Mi)) (k : Key) → Kept base h
+changes-are : (base : ℕ) (h : List Keying) (r : Option (List Mi)) (k : Key) → KeepsRules base h
     → ((dropped (drops_latest k.an (option_map (kept_of false h) (latest h))) ++ dropped (drops_former k.an (option_map (held h) (old h)))) ++ Installed (shown false k) ∷ []) ≡ (installing h r k).changes
 changes-are base h r k kept =
     elim (shape base h kept) [
@@ -54,7 +54,7 @@ is-absent : (o : Option ℕ) → (is_some o ≡ true → ⊥) → o ≡ None
 is-absent None never = refl
 is-absent (Some at) never = absurd (never refl)
 
-kept-fresh : (base : ℕ) (h : List Keying) (r : Option (List Mi)) (k : Key) → Kept base h → k.epoch ≡ (base + install_count h) + 1
+kept-fresh : (base : ℕ) (h : List Keying) (r : Option (List Mi)) (k : Key) → KeepsRules base h → k.epoch ≡ (base + install_count h) + 1
     → (let l : Latest = record { held = shown false k; since_begun = 0 } in l) ≡ kept_of false (installed r k ∷ h) k
 kept-fresh base h r k kept next =
     let unbegun : begun_at h k.epoch ≡ None = is-absent (begun_at h k.epoch) (λ b. let most = begun-upto base h k.epoch kept b in omega arith) in
@@ -81,7 +81,7 @@ number-is es h r k q is =
     rw (place, t, before) refl)
     (λ t. let place : is_at (order k.id.server) q ≡ false = place-is k.id.server q ∙ t in rw (place, t) (is q))
 
-pub stands-installed : (base : ℕ) (own : Mi) (s t : State) (h : List Keying) (r : Option (List Mi)) (k : Key) → IsInstalled s k r t → Kept base (installed r k ∷ h) → IsNumbered own (installed r k ∷ h)
+pub stands-installed : (base : ℕ) (own : Mi) (s t : State) (h : List Keying) (r : Option (List Mi)) (k : Key) → IsInstalled s k r t → KeepsRules base (installed r k ∷ h) → IsNumbered own (installed r k ∷ h)
     → StandsFor base own false s h → StandsFor base own false t (installing h r k).past
 stands-installed base own s t h r k i kept numbered x =
     let keys = keys-installed base h r k kept in
@@ -105,7 +105,7 @@ pub judged-told : (base : ℕ) (own : Mi) (s : State) (h : List Keying) (o : Off
 judged-told base own s h o sak t = rw (t.numbers o.server, allows-told base own s h t, t.epochs) refl
 
 -- what is known of a key that is taken
-pub record IsTaken (kept : Option ℕ) (allowed : Bool) (epoch : ℕ) (o : Offer) (k : Key) : Type 0 where
+pub record IsKeyOfOffer (kept : Option ℕ) (allowed : Bool) (epoch : ℕ) (o : Offer) (k : Key) : Type 0 where
   pub id : k.id ≡ offered_id o
   pub over : IsOver kept o.given.number
   pub may : allowed ≡ true
@@ -123,7 +123,7 @@ key-ok : (epoch : ℕ) (o : Offer) (sak : Option Secret) (k : Key) → unwrapped
 key-ok epoch o None k is = absurd (cc (is))
 key-ok epoch o (Some x) k is = let same : Ok (offered_key epoch o x) ≡ Ok k = is in let key : offered_key epoch o x ≡ k = cc (same) in (rw (← key) refl, rw (← key) refl)
 
-pub judged-ok : (kept : Option ℕ) (allowed : Bool) (epoch : ℕ) (o : Offer) (sak : Option Secret) (k : Key) → judged kept allowed epoch o sak ≡ Ok k → IsTaken kept allowed epoch o k
+pub judged-ok : (kept : Option ℕ) (allowed : Bool) (epoch : ℕ) (o : Offer) (sak : Option Secret) (k : Key) → judged kept allowed epoch o sak ≡ Ok k → IsKeyOfOffer kept allowed epoch o k
 judged-ok kept allowed epoch o sak k is =
     let a = provided-ok o.listed NotListed _ k is in
     let b = provided-ok o.elected NotServer _ k a.1 in
@@ -137,7 +137,7 @@ judged-ok kept allowed epoch o sak k is =
 -- the key that the code installs, in its history
 pub record Takes (base : ℕ) (own : Mi) (h : List Keying) (o : Offer) (sak : Option Secret) (key : Key) : Type 0 where
   pub is : taken base h o sak ≡ Ok key
-  pub kept : Kept base (installed None key ∷ h)
+  pub kept : KeepsRules base (installed None key ∷ h)
   pub numbered : IsNumbered own (installed None key ∷ h)
 
 pub takes : (base : ℕ) (own : Mi) (s : State) (h : List Keying) (o : Offer) (sak : Option Secret) (key : Key) → StandsFor base own false s h → judged_now s o sak ≡ Ok key → Takes base own h o sak key

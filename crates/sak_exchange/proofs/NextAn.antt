@@ -3,7 +3,7 @@ use Rattle.std.proofs.Common.{◌≡◌, ℕ, Bool, true, false, ◌||◌, List,
 use Rattle.lan_base.specs.declared.association_number.AssociationNumber.{AssociationNumber}
 use Rattle.lan_base.specs.AssociationNumbers.{same_an, behind}
 use Rattle.sak_exchange.specs.Histories.{Keying, ticked, installed, began, last_key}
-use Rattle.sak_exchange.specs.Held.{received, Kept}
+use Rattle.sak_exchange.specs.Held.{received, KeepsRules}
 use Rattle.sak_exchange.specs.Making.{is_used, free_from, next_an}
 use Rattle.sak_exchange.proofs.AssociationNumbers.{leave-one}
 use Rattle.sak_exchange.proofs.Cases.{by_test, by_option}
@@ -13,7 +13,7 @@ twice : (b : Bool) → (b || false) ≡ true → (b || (b || false)) ≡ true
 twice true is = refl
 twice false is = is
 
-one-is-free : (base : ℕ) (h : List Keying) (a : AssociationNumber) → Kept base h → is_used h a ≡ true → is_used h (behind a) ≡ true → is_used h (behind (behind a)) ≡ true → ⊥
+one-is-free : (base : ℕ) (h : List Keying) (a : AssociationNumber) → KeepsRules base h → is_used h a ≡ true → is_used h (behind a) ≡ true → is_used h (behind (behind a)) ≡ true → ⊥
 one-is-free base h a kept first second third =
     elim (shape base h kept) [
       | none r ↦ let never = rw r at first in absurd (cc (never))
@@ -22,7 +22,7 @@ one-is-free base h a kept first second third =
       | two k o r last b ↦ leave-one k.an o.an a (rw r at first) (rw r at second) (rw r at third)
     ]
 
-free-is : (base : ℕ) (h : List Keying) (a : AssociationNumber) → Kept base h → is_used h (free_from 2 h a) ≡ false
+free-is : (base : ℕ) (h : List Keying) (a : AssociationNumber) → KeepsRules base h → is_used h (free_from 2 h a) ≡ false
 free-is base h a kept =
     by_test (is_used h a)
     (λ s. by_test (is_used h (behind a))
@@ -37,7 +37,7 @@ none-held (ticked s ∷ h) is = rw (none-held h is) refl
 none-held (installed r k ∷ h) is = absurd (cc (is))
 none-held (began e ∷ h) is = rw (none-held h is) refl
 
-pub next-is-free : (base : ℕ) (h : List Keying) → Kept base h → is_used h (next_an h) ≡ false
+pub next-is-free : (base : ℕ) (h : List Keying) → KeepsRules base h → is_used h (next_an h) ≡ false
 next-is-free base h kept =
     by_option (last_key h)
     (λ is. rw (none-held h is) refl)

@@ -6,7 +6,7 @@ use Rattle.lan_base.specs.Identifiers.{same_mi}
 use Rattle.lan_base.specs.Falling.{IsAbove, IsFalling}
 use Rattle.sak_exchange.specs.declared.held_key.Key.{Key}
 use Rattle.sak_exchange.specs.Histories.{Keying, ticked, installed, began, install_count, made_count}
-use Rattle.sak_exchange.specs.Held.{Kept}
+use Rattle.sak_exchange.specs.Held.{KeepsRules}
 use Rattle.sak_exchange.specs.Taking.{greatest_of}
 use Rattle.lan_base.specs.Differing.{DiffersFrom, AllDiffer}
 use Rattle.sak_exchange.specs.Lives.{IsOver, IsNumbered, TakesNoneOfOwn, epochs, numbers_of, identifiers}
@@ -91,13 +91,13 @@ identifiers-differ own (began e ∷ h) n none = identifiers-differ own h n none
 
 -- ---- epochs
 
-above-epochs : (base n : ℕ) (h : List Keying) → Kept base h → base + install_count h < n → IsAbove n (epochs h)
+above-epochs : (base n : ℕ) (h : List Keying) → KeepsRules base h → base + install_count h < n → IsAbove n (epochs h)
 above-epochs base n [] kept less = tt
 above-epochs base n (ticked s ∷ h) kept less = above-epochs base n h kept less
 above-epochs base n (installed r k ∷ h) kept less = let next = kept.0 in (omega arith, above-epochs base n h kept.2 (omega arith))
 above-epochs base n (began e ∷ h) kept less = above-epochs base n h kept.1 less
 
-pub epochs-fall : (base : ℕ) (h : List Keying) → Kept base h → IsFalling (epochs h)
+pub epochs-fall : (base : ℕ) (h : List Keying) → KeepsRules base h → IsFalling (epochs h)
 epochs-fall base [] kept = tt
 epochs-fall base (ticked s ∷ h) kept = epochs-fall base h kept
 epochs-fall base (installed r k ∷ h) kept = let next = kept.0 in (above-epochs base k.epoch h kept.2 (omega arith), epochs-fall base h kept.2)

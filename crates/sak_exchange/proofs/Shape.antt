@@ -7,7 +7,7 @@ use Rattle.lan_base.specs.declared.address.Mi.{Mi}
 use Rattle.lan_base.specs.AssociationNumbers.{same_an}
 use Rattle.sak_exchange.specs.declared.held_key.Key.{Key}
 use Rattle.sak_exchange.specs.Histories.{Keying, ticked, installed, began, clock, last_key, begun_at, has_begun}
-use Rattle.sak_exchange.specs.Held.{is_retire_time_ago, ends, with_new, received, has_epoch, latest, old, Kept}
+use Rattle.sak_exchange.specs.Held.{is_retire_time_ago, ends, with_new, received, has_epoch, latest, old, KeepsRules}
 use Rattle.sak_exchange.proofs.Cases.{by_test, by_option, not-false}
 use Rattle.sak_exchange.proofs.Epochs.{last-epoch, none-later, may-begin, begun-upto}
 
@@ -82,12 +82,12 @@ latest-two h l o r last less =
 -- ---- each entry keeps the shape
 
 -- a tick with an elected server doesn't end the last key
-pub not-ended : (base : ℕ) (h : List Keying) (l : Key) → Kept base h → last_key h ≡ Some l → ends (ticked true) h l ≡ false
+pub not-ended : (base : ℕ) (h : List Keying) (l : Key) → KeepsRules base h → last_key h ≡ Some l → ends (ticked true) h l ≡ false
 not-ended base h l kept last =
     let epoch = last-epoch base h l kept last in
     none-later base h l.epoch (λ e. is_retire_time_ago (clock h + 1) (begun_at h e)) kept (omega arith)
 
-shape-ticked : (base : ℕ) (h : List Keying) → Kept base h → Shape h → Shape (ticked true ∷ h)
+shape-ticked : (base : ℕ) (h : List Keying) → KeepsRules base h → Shape h → Shape (ticked true ∷ h)
 shape-ticked base h kept (none r) = none (received-next (ticked true) h [] r ∙ left-none (ticked true) h)
 shape-ticked base h kept (one l r last) =
     one l (received-next (ticked true) h (l ∷ []) r ∙ keeps-one (ticked true) h l (not-ended base h l kept last)) last
@@ -107,7 +107,7 @@ shape-dropped : (h : List Keying) → Shape (ticked false ∷ h)
 shape-dropped h = none (received-next (ticked false) h (received h) refl ∙ all-dropped h (received h))
 
 -- no key has begun that came after the last one
-pub none-begun-later : (base : ℕ) (h : List Keying) (l : Key) → Kept base h → last_key h ≡ Some l → (e : ℕ) → has_begun h e ≡ true → l.epoch < e → ⊥
+pub none-begun-later : (base : ℕ) (h : List Keying) (l : Key) → KeepsRules base h → last_key h ≡ Some l → (e : ℕ) → has_begun h e ≡ true → l.epoch < e → ⊥
 none-begun-later base h l kept last e b less = let epoch = last-epoch base h l kept last in let most = begun-upto base h e kept b in omega arith
 
 -- an install ends a key that has not begun
@@ -118,7 +118,7 @@ ends-unbegun r n h k b = rw b (by_test (same_an n.an k.an) (λ t. rw t refl) (λ
 pub unbegun-of : (h : List Keying) (l o : Key) → latest h ≡ Some l → old h ≡ Some o → not (has_begun h l.epoch && true) ≡ true → has_begun h l.epoch ≡ false
 unbegun-of h l o first second may = by_test (has_begun h l.epoch) (λ t. let never = rw t at may in absurd (cc (never))) (λ t. t)
 
-shape-installed : (base : ℕ) (h : List Keying) (r : Option (List Mi)) (k : Key) → Kept base (installed r k ∷ h) → Shape h → Shape (installed r k ∷ h)
+shape-installed : (base : ℕ) (h : List Keying) (r : Option (List Mi)) (k : Key) → KeepsRules base (installed r k ∷ h) → Shape h → Shape (installed r k ∷ h)
 shape-installed base h r k kept (none is) = one k (received-next (installed r k) h [] is ∙ ap (λ ks. k ∷ ks) (left-none (installed r k) h)) refl
 shape-installed base h r k kept (one l is last) =
     let x = installed r k in
@@ -149,7 +149,7 @@ shape-installed base h r k kept (two l o is last b) =
       only = λ e begun less. let same = b.only e begun less in let never : has_begun h e ≡ false = rw same unbegun in absurd (cc (begun, never));
     }))
 
-shape-began : (base : ℕ) (h : List Keying) (e : ℕ) → Kept base (began e ∷ h) → Shape h → Shape (began e ∷ h)
+shape-began : (base : ℕ) (h : List Keying) (e : ℕ) → KeepsRules base (began e ∷ h) → Shape h → Shape (began e ∷ h)
 shape-began base h e kept (none is) = none (received-next (began e) h [] is ∙ left-none (began e) h)
 shape-began base h e kept (one l is last) = one l (received-next (began e) h (l ∷ []) is ∙ keeps-one (began e) h l refl) last
 shape-began base h e kept (two l o is last b) =
@@ -164,7 +164,7 @@ shape-began base h e kept (two l o is last b) =
       only = λ n begun less. by_test (e == n) (λ t. sym (eqb-true e n t) ∙ epoch) (λ t. let earlier = rw t at begun in b.only n earlier less);
     })
 
-pub shape : (base : ℕ) (h : List Keying) → Kept base h → Shape h
+pub shape : (base : ℕ) (h : List Keying) → KeepsRules base h → Shape h
 unfolding received
 shape base [] kept = none refl
 shape base (ticked true ∷ h) kept = shape-ticked base h kept (shape base h kept)

@@ -7,7 +7,7 @@ use Rattle.lan_base.specs.Falling.{IsAbove, IsFalling}
 use Rattle.lan_base.specs.Timers.{retire_time}
 use Rattle.sak_exchange.specs.declared.held_key.Key.{Key}
 use Rattle.sak_exchange.specs.Histories.{Keying, ticked, installed, began, clock, installs, last_key, begun_at, has_begun, beginnings}
-use Rattle.sak_exchange.specs.Held.{is_retire_time_ago, retires, ends, received, has_epoch, latest, old, Kept}
+use Rattle.sak_exchange.specs.Held.{is_retire_time_ago, retires, ends, received, has_epoch, latest, old, KeepsRules}
 use Rattle.sak_exchange.specs.Lives.{IsQuiet, IsFresh}
 use Rattle.sak_exchange.proofs.AssociationNumbers.{other-an}
 use Rattle.sak_exchange.proofs.Cases.{by_test}
@@ -15,17 +15,17 @@ use Rattle.sak_exchange.proofs.Epochs.{may-begin, latest-epoch, begun-upto}
 use Rattle.sak_exchange.proofs.Shape.{left, received-next, left-on, keeps-both, latest-two, not-ended}
 use Rattle.sak_exchange.proofs.Both.{IsFirst, first-is, AreTwo, keys-of, beside-old, are-two}
 
-pub old-begun : (base : ℕ) (h : List Keying) (o : Key) → Kept base h → old h ≡ Some o → has_begun h o.epoch ≡ true
+pub old-begun : (base : ℕ) (h : List Keying) (o : Key) → KeepsRules base h → old h ≡ Some o → has_begun h o.epoch ≡ true
 old-begun base h o kept is = (beside-old base h o kept is).1.beside.started
 
-pub latest-alone-begins : (base : ℕ) (h : List Keying) (o : Key) (e : ℕ) → Kept base h → old h ≡ Some o → has_begun h e ≡ true → o.epoch < e → (l : Key) × (latest h ≡ Some l) × (l.epoch ≡ e)
+pub latest-alone-begins : (base : ℕ) (h : List Keying) (o : Key) (e : ℕ) → KeepsRules base h → old h ≡ Some o → has_begun h e ≡ true → o.epoch < e → (l : Key) × (latest h ≡ Some l) × (l.epoch ≡ e)
 latest-alone-begins base h o e kept is begun less =
     let found = beside-old base h o kept is in (found.0, (keys-of h found.0 o found.1).0, sym (found.1.beside.only e begun less))
 
-pub none-begins-later : (base : ℕ) (h : List Keying) (l : Key) (e : ℕ) → Kept base h → latest h ≡ Some l → has_begun h e ≡ true → e ≤ l.epoch
+pub none-begins-later : (base : ℕ) (h : List Keying) (l : Key) (e : ℕ) → KeepsRules base h → latest h ≡ Some l → has_begun h e ≡ true → e ≤ l.epoch
 none-begins-later base h l e kept is begun = let epoch = latest-epoch base h l kept is in let most = begun-upto base h e kept begun in omega arith
 
-pub ans-differ : (base : ℕ) (h : List Keying) (l o : Key) → Kept base h → latest h ≡ Some l → old h ≡ Some o → l.an ≡ o.an → ⊥
+pub ans-differ : (base : ℕ) (h : List Keying) (l o : Key) → KeepsRules base h → latest h ≡ Some l → old h ≡ Some o → l.an ≡ o.an → ⊥
 ans-differ base h l o kept first second = other-an l.an o.an (are-two base h l o kept first second).beside.apart
 
 above-all : (n : ℕ) (h : List Keying) → ((e : ℕ) → has_begun h e ≡ true → e < n) → IsAbove n (beginnings h)
@@ -35,7 +35,7 @@ above-all n (installed r k ∷ h) above = above-all n h above
 above-all n (began e ∷ h) above =
     (above e (let same : (e == e) ≡ true = eq-eqb e e refl in rw same refl), above-all n h (λ f b. above f (by_test (e == f) (λ t. rw t refl) (λ t. rw t b))))
 
-pub beginnings-fall : (base : ℕ) (h : List Keying) → Kept base h → IsFalling (beginnings h)
+pub beginnings-fall : (base : ℕ) (h : List Keying) → KeepsRules base h → IsFalling (beginnings h)
 beginnings-fall base [] kept = tt
 beginnings-fall base (ticked s ∷ h) kept = beginnings-fall base h kept
 beginnings-fall base (installed r k ∷ h) kept = beginnings-fall base h kept.2
@@ -110,7 +110,7 @@ first-began h l e first =
     let x = began e in
     record { rest = left x h first.rest; received = received-next x h (l ∷ first.rest) first.received ∙ left-on x h l first.rest refl; last = first.last }
 
-pub latest-stays : (base : ℕ) (new h : List Keying) (l : Key) → Kept base (new ++ h) → IsQuiet new → latest h ≡ Some l → latest (new ++ h) ≡ Some l
+pub latest-stays : (base : ℕ) (new h : List Keying) (l : Key) → KeepsRules base (new ++ h) → IsQuiet new → latest h ≡ Some l → latest (new ++ h) ≡ Some l
 latest-stays base [] h l kept quiet is = is
 latest-stays base (ticked s ∷ new) h l kept quiet is =
     let first = first-is base (new ++ h) l kept (latest-stays base new h l kept quiet.1 is) in
@@ -123,7 +123,7 @@ latest-stays base (began e ∷ new) h l kept quiet is =
 two-stay : (h : List Keying) (l o : Key) (x : Keying) → AreTwo h l o → received (x ∷ h) ≡ l ∷ o ∷ [] → last_key (x ∷ h) ≡ Some l → old (x ∷ h) ≡ Some o
 two-stay h l o x are is last = (latest-two (x ∷ h) l o is last are.beside.less).1
 
-pub old-stays : (base : ℕ) (new h : List Keying) (l o : Key) → Kept base (new ++ h) → IsQuiet new → latest h ≡ Some l → old h ≡ Some o
+pub old-stays : (base : ℕ) (new h : List Keying) (l o : Key) → KeepsRules base (new ++ h) → IsQuiet new → latest h ≡ Some l → old h ≡ Some o
     → IsFresh (clock (new ++ h)) (begun_at (new ++ h) l.epoch) → old (new ++ h) ≡ Some o
 old-stays base [] h l o kept quiet first second fresh = second
 old-stays base (ticked s ∷ new) h l o kept quiet first second fresh =

@@ -8,7 +8,7 @@ use Rattle.lan_base.specs.Timers.{retire_time}
 use Rattle.sak_exchange.specs.declared.held_key.Key.{Key}
 use Rattle.sak_exchange.specs.declared.report.Report.{Report}
 use Rattle.sak_exchange.specs.Histories.{Keying, ticked, last_roster, has_begun}
-use Rattle.sak_exchange.specs.Held.{latest, old, transmitting, received, held, Kept}
+use Rattle.sak_exchange.specs.Held.{latest, old, transmitting, received, held, KeepsRules}
 use Rattle.sak_exchange.specs.Beginning.{leads}
 use Rattle.sak_exchange.specs.Outcomes.{dropping, retiring}
 use Rattle.sak_exchange.specs.Stills.{IsStill}
@@ -25,7 +25,7 @@ none-former : (h : List Keying) (o : Option Key) → is_none (option_map (held h
 none-former h None is = refl
 none-former h (Some k) is = absurd (cc (is))
 
-none-received : (base : ℕ) (h : List Keying) → Kept base h → latest h ≡ None → received h ≡ []
+none-received : (base : ℕ) (h : List Keying) → KeepsRules base h → latest h ≡ None → received h ≡ []
 none-received base h kept is =
     elim (shape base h kept) [
       | none r ↦ r
@@ -42,10 +42,10 @@ retired-nothing h is = rw is refl
 dropped-nothing : (h : List Keying) → received h ≡ [] → (dropping h).changes ≡ []
 dropped-nothing h is = rw is refl
 
-none-kept : (base : ℕ) (h : List Keying) → Kept base h → latest h ≡ None → transmitting h ≡ None
+none-kept : (base : ℕ) (h : List Keying) → KeepsRules base h → latest h ≡ None → transmitting h ≡ None
 none-kept base h kept is = transmitting-is base h kept ∙ current-none base h kept is
 
-still-bare : (elected : Bool) (base : ℕ) (h : List Keying) → Kept base h → latest h ≡ None → old h ≡ None → IsStill elected h
+still-bare : (elected : Bool) (base : ℕ) (h : List Keying) → KeepsRules base h → latest h ≡ None → old h ≡ None → IsStill elected h
 still-bare false base h kept l o =
     let keys = keys-dropped h in record {
       ended = dropped-nothing h (none-received base h kept l);
@@ -77,7 +77,7 @@ unled-begun h live k is begun = rw (is, begun) (never-told (is_some (last_roster
 retired-unover : (h : List Keying) → is_over h ≡ false → (retiring h).changes ≡ []
 retired-unover h is = rw is refl
 
-still-begun : (base : ℕ) (h : List Keying) (k : Key) → Kept base h → latest h ≡ Some k → has_begun h k.epoch ≡ true → is_over h ≡ false → IsStill true h
+still-begun : (base : ℕ) (h : List Keying) (k : Key) → KeepsRules base h → latest h ≡ Some k → has_begun h k.epoch ≡ true → is_over h ≡ false → IsStill true h
 still-begun base h k kept is begun over =
     let keys = keys-ticked base h kept in
     let after : latest (ticked true ∷ h) ≡ Some k = keys.latest ∙ is in

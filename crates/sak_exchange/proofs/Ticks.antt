@@ -10,7 +10,7 @@ use Rattle.sak_exchange.specs.declared.held_key.HeldKey.{HeldKey}
 use Rattle.sak_exchange.specs.declared.latest.Latest.{Latest}
 use Rattle.sak_exchange.specs.declared.held_key.Key.{Key}
 use Rattle.sak_exchange.specs.Histories.{Keying, ticked, installed, began, clock, last_made_at, begun_at, has_begun}
-use Rattle.sak_exchange.specs.Held.{is_retire_time_ago, latest, old, Kept, held}
+use Rattle.sak_exchange.specs.Held.{is_retire_time_ago, latest, old, KeepsRules, held}
 use Rattle.sak_exchange.specs.Beginning.{is_long_ago, retired}
 use Rattle.sak_exchange.specs.Outcomes.{dropping, retiring}
 use Rattle.sak_exchange.specs.Standing.{State, StandsFor, ticks_since, ticks_since_any, most_ticks, kept_of}
@@ -131,7 +131,7 @@ retires-some false o k is = absurd (cc (is))
 
 -- ---- dropping all
 
-shown-dropped : (base : ℕ) (h : List Keying) → Kept base h
+shown-dropped : (base : ℕ) (h : List Keying) → KeepsRules base h
     → (option_to_list (option_map (λ (l : Latest). Dropped l.held) (option_map (kept_of true h) (latest h))) ++ option_to_list (option_map Dropped (option_map (held h) (old h)))) ≡ (dropping h).changes
 shown-dropped base h kept =
     elim (shape base h kept) [

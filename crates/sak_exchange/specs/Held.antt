@@ -69,12 +69,12 @@ may_begin h e = is_latest h (λ k. k.epoch == e && not (has_begun h e))
 
 -- The rules were kept, where so many keys were installed in earlier lives: epochs go on counting, a
 -- key is installed where that is allowed, and what begins is the latest key, once.
-abbrev pub Kept : ℕ → List Keying → Type 0
-Kept base [] = Unit {0}
-Kept base (ticked s ∷ h) = Kept base h
-Kept base (installed r k ∷ h) =
-    (k.epoch ≡ (base + install_count h) + 1) × (allows h ≡ true) × Kept base h
-Kept base (began e ∷ h) = (may_begin h e ≡ true) × Kept base h
+abbrev pub KeepsRules : ℕ → List Keying → Type 0
+KeepsRules base [] = Unit {0}
+KeepsRules base (ticked s ∷ h) = KeepsRules base h
+KeepsRules base (installed r k ∷ h) =
+    (k.epoch ≡ (base + install_count h) + 1) × (allows h ≡ true) × KeepsRules base h
+KeepsRules base (began e ∷ h) = (may_begin h e ≡ true) × KeepsRules base h
 
 -- a key as it is shown, which has begun or not
 abbrev pub shown : Bool → Key → HeldKey

@@ -10,7 +10,7 @@ use Rattle.sak_exchange.specs.declared.held_key.HeldKey.{HeldKey}
 use Rattle.sak_exchange.specs.declared.latest.Latest.{Latest}
 use Rattle.sak_exchange.specs.declared.held_key.Key.{Key}
 use Rattle.sak_exchange.specs.Histories.{Keying, clock, last_key, last_roster, last_made_at, install_count, made_count, begun_at}
-use Rattle.sak_exchange.specs.Held.{latest, old, Kept, held}
+use Rattle.sak_exchange.specs.Held.{latest, old, KeepsRules, held}
 use Rattle.sak_exchange.specs.Taking.{greatest_of}
 use Rattle.sak_exchange.specs.Lives.{IsNumbered}
 
@@ -57,7 +57,7 @@ kept_of pending h k =
 -- history's. Where a tick is pending, the history ends before that tick.
 pub record StandsFor (base : ℕ) (own : Mi) (pending : Bool) (s : State)
     (h : List Keying) : Type 0 where
-  pub kept : Kept base h
+  pub kept : KeepsRules base h
   pub numbered : IsNumbered own h
   pub owner : s.own ≡ own
   pub latest : s.latest ≡ option_map (kept_of pending h) (latest h)

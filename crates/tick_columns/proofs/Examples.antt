@@ -2,7 +2,7 @@
 use Rattle.std.proofs.Common.{◌≡◌, ◌<◌, ◌/◌, ℕ, List, [], ◌∷◌, All, Some, None, refl, arith}
 use Rattle.std.proofs.lemmas.List.Elements.{All-nil, All-cons}
 use Rattle.tick_columns.specs.declared.column.Column.{Column}
-use Rattle.tick_columns.specs.Columns.{AreColumns, IsColumn, Kept, columns}
+use Rattle.tick_columns.specs.Columns.{AreColumns, IsColumn, Columns, columns}
 use Rattle.tick_columns.specs.inside.Joining.{joined}
 
 abbrev seven : Column ℕ
@@ -38,7 +38,7 @@ two_columns = (
   (12 ∷ [], [], refl, third, All-nil (λ n. 12 / 10 < n / 10), refl),
 )
 
-abbrev kept : Kept ℕ
+abbrev kept : Columns ℕ
 kept = record { ticks = 10; earlier = seven ∷ []; latest = Some twelve }
 
 -- a column that is the latest one comes to it, and its item is the last one now

@@ -6,7 +6,7 @@ use Rattle.std.proofs.lemmas.Bool.{eqb-true}
 use Rattle.std.proofs.lemmas.List.{append-nil, length-append}
 use Rattle.std.proofs.lemmas.List.Elements.{All-nil, All-append, All-weaker}
 use Rattle.tick_columns.specs.declared.column.Column.{Column}
-use Rattle.tick_columns.specs.Columns.{AreColumns, IsColumn, IsLast, IsThinned, Kept, columns}
+use Rattle.tick_columns.specs.Columns.{AreColumns, IsColumn, IsLast, IsThinned, Columns, columns}
 use Rattle.tick_columns.specs.inside.Joining.{IsWidened, IsWider, both, joined, joined_to, renewed, renewed_latest}
 use Rattle.tick_columns.proofs.Cut.{IsApart, all-last, apart, behind, both-column, div-less, in-column, one-column, wider-column, wider-le}
 
@@ -68,7 +68,7 @@ module _ {T : Type 0} (time : T → ℕ) where
     to-latest None none are = to-none (none refl) are
     to-latest (Some d) none are = to-some d are (time d.last / w == time c.last / w) refl
 
-  pub joined-stands : (old : Kept T) (items own : List T) (c : Column T)
+  pub joined-stands : (old : Columns T) (items own : List T) (c : Column T)
       → AreColumns time old.ticks items (columns old) → (old.latest ≡ None → items ≡ [])
       → IsColumn time old.ticks own c → All (λ x. time x / old.ticks ≤ time c.last / old.ticks) items
       → AreColumns time old.ticks (items ++ own) (columns (joined time c old))
@@ -98,11 +98,11 @@ module _ {T : Type 0} (time : T → ℕ) where
       omega (arith, one, two)
   few-to w earlier c (Some d) = to-few w earlier c d (time d.last / w == time c.last / w)
 
-  pub joined-few : (old : Kept T) (c : Column T)
+  pub joined-few : (old : Columns T) (c : Column T)
       → length (columns (joined time c old)) ≤ length (columns old) + 1
   joined-few old c = few-to old.ticks old.earlier c old.latest
 
-  abbrev put : (w : ℕ) (earlier : List (Column T)) (c d : Column T) (b : Bool) → Kept T
+  abbrev put : (w : ℕ) (earlier : List (Column T)) (c d : Column T) (b : Bool) → Columns T
   put w earlier c d b =
       if b then record { ticks = w; earlier = earlier; latest = Some (both d c) }
       else record { ticks = w; earlier = earlier ++ d ∷ []; latest = Some c }
@@ -117,7 +117,7 @@ module _ {T : Type 0} (time : T → ℕ) where
   latest-to w earlier c None is = cc is
   latest-to w earlier c (Some d) is = some-latest w earlier c d (time d.last / w == time c.last / w) is
 
-  pub joined-latest : (old : Kept T) (c : Column T) → (joined time c old).latest ≡ None → ⊥
+  pub joined-latest : (old : Columns T) (c : Column T) → (joined time c old).latest ≡ None → ⊥
   joined-latest old c is = latest-to old.ticks old.earlier c old.latest is
 
   same-ticks : (w : ℕ) (earlier : List (Column T)) (c d : Column T) (b : Bool)
@@ -130,12 +130,12 @@ module _ {T : Type 0} (time : T → ℕ) where
   ticks-to w earlier c None = refl
   ticks-to w earlier c (Some d) = same-ticks w earlier c d (time d.last / w == time c.last / w)
 
-  pub joined-ticks : (old : Kept T) (c : Column T) → (joined time c old).ticks ≡ old.ticks
+  pub joined-ticks : (old : Columns T) (c : Column T) → (joined time c old).ticks ≡ old.ticks
   joined-ticks old c = ticks-to old.ticks old.earlier c old.latest
 
   -- ---- an item more
 
-  pub added-stands : (old : Kept T) (items : List T) (item : T) → IsThinned time items old
+  pub added-stands : (old : Columns T) (items : List T) (item : T) → IsThinned time items old
       → length (columns old) < 202 → All (λ x. time x ≤ time item) items
       → IsThinned time (items ++ item ∷ []) (joined time (record { before = 0; last = item }) old)
   added-stands old items item is room late =
@@ -161,7 +161,7 @@ module _ {T : Type 0} (time : T → ℕ) where
     none = λ none. refl;
   }
 
-  pub wider-more : (w : ℕ) (cs : List (Column T)) (c : Column T) (kept : Kept T) → IsWider time w cs kept
+  pub wider-more : (w : ℕ) (cs : List (Column T)) (c : Column T) (kept : Columns T) → IsWider time w cs kept
       → IsWider time w (cs ++ c ∷ []) (joined time c kept)
   wider-more w cs c kept is =
       let more = joined-few kept c in
@@ -191,7 +191,7 @@ module _ {T : Type 0} (time : T → ℕ) where
           (λ (x : T). time x / (w * 2) ≤ time c.last / (w * 2))
           (λ x less. wider-le w (time x) (time c.last) (omega (arith, less))) a.front a.less))))
 
-  pub wider-whole : (old new : Kept T) → IsWider time old.ticks (columns old) new → IsWidened time old new
+  pub wider-whole : (old new : Columns T) → IsWider time old.ticks (columns old) new → IsWidened time old new
   wider-whole old new is items stands =
       let had = is.few in
       let few = stands.few in
@@ -216,21 +216,21 @@ module _ {T : Type 0} (time : T → ℕ) where
 
   -- ---- what the calls give
 
-  pub wider-join : (w : ℕ) (before : List (Column T)) (c : Column T) (o : Option (Column T)) (old new : Kept T)
+  pub wider-join : (w : ℕ) (before : List (Column T)) (c : Column T) (o : Option (Column T)) (old new : Columns T)
       (r : Result (Unit {0}) AllocError) → o ≡ Some c → IsWider time w before old
       → OnOk r (new ≡ joined time c old) → OnOk r (IsWider time w (before ++ option_to_list o) new)
   wider-join w before c o old new (Ok done) there is same =
       subst (λ (p : Option (Column T)). IsWider time w (before ++ option_to_list p) new) (sym there)
-      (subst (λ (k : Kept T). IsWider time w (before ++ c ∷ []) k) (sym same) (wider-more w before c old is))
+      (subst (λ (k : Columns T). IsWider time w (before ++ c ∷ []) k) (sym same) (wider-more w before c old is))
   wider-join w before c o old new (Err e) there is same = tt
 
-  pub wider-next : (w : ℕ) (before front next : List (Column T)) (c : Column T) (old new : Kept T)
+  pub wider-next : (w : ℕ) (before front next : List (Column T)) (c : Column T) (old new : Columns T)
       → next ≡ front ++ c ∷ [] → IsWider time w (before ++ front) old → new ≡ joined time c old
       → IsWider time w (before ++ next) new
   wider-next w before front next c old new one is same =
       subst (λ (cs : List (Column T)). IsWider time w cs new)
       (append_assoc before front (c ∷ []) ∙ ap (λ (cs : List (Column T)). before ++ cs) (sym one))
-      (subst (λ (k : Kept T). IsWider time w ((before ++ front) ++ c ∷ []) k) (sym same)
+      (subst (λ (k : Columns T). IsWider time w ((before ++ front) ++ c ∷ []) k) (sym same)
       (wider-more w (before ++ front) c old is))
 
   -- the last item, where there is a latest column
@@ -282,7 +282,7 @@ module _ {T : Type 0} (time : T → ℕ) where
       (behind time w a.front (a.column.before ++ item ∷ []) earlier (record { before = c.before; last = item })
       a.columns own (subst (λ n. All (λ x. time x / w < n / w) a.front) now a.less))
 
-  pub renewed-stands : (old : Kept T) (front : List T) (x item : T) → IsThinned time (front ++ x ∷ []) old
+  pub renewed-stands : (old : Columns T) (front : List T) (x item : T) → IsThinned time (front ++ x ∷ []) old
       → time item ≡ time x → IsThinned time (front ++ item ∷ []) (renewed item old)
   renewed-stands old front x item is at = go old.latest is.columns_are is.few is.none
     where
@@ -303,17 +303,17 @@ module _ {T : Type 0} (time : T → ℕ) where
             none = λ none. absurd (cc none);
           }
 
-  pub wider-parts : (w : ℕ) (xs ys : List (Column T)) (o p : Option (Column T)) (new : Kept T) → xs ≡ ys → o ≡ p
+  pub wider-parts : (w : ℕ) (xs ys : List (Column T)) (o p : Option (Column T)) (new : Columns T) → xs ≡ ys → o ≡ p
       → IsWider time w (xs ++ option_to_list o) new → IsWider time w (ys ++ option_to_list p) new
   wider-parts w xs ys o p new same alike is =
       subst (λ (zs : List (Column T)). IsWider time w (zs ++ option_to_list p) new) same
       (subst (λ (q : Option (Column T)). IsWider time w (xs ++ option_to_list q) new) alike is)
 
-  pub added-by : (mid new : Kept T) (items : List T) (item : T) (r : Result (Unit {0}) AllocError)
+  pub added-by : (mid new : Columns T) (items : List T) (item : T) (r : Result (Unit {0}) AllocError)
       → IsThinned time items mid → length (columns mid) < 202 → All (λ x. time x ≤ time item) items
       → OnOk r (new ≡ joined time (record { before = 0; last = item }) mid)
       → OnOk r (IsThinned time (items ++ item ∷ []) new)
   added-by mid new items item (Ok done) is room late same =
-      subst (λ (k : Kept T). IsThinned time (items ++ item ∷ []) k) (sym same)
+      subst (λ (k : Columns T). IsThinned time (items ++ item ∷ []) k) (sym same)
       (added-stands mid items item is room late)
   added-by mid new items item (Err e) is room late same = tt

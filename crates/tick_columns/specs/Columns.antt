@@ -17,15 +17,15 @@ AreColumns {T} time ticks items (column ∷ later) =
     × All (λ x. time column.last / ticks < time x / ticks) rest × AreColumns time ticks rest later
 
 -- what is kept: how many ticks a column has, the columns before the latest one, and that one
-pub record Kept (T : Type 0) : Type 0 where
+pub record Columns (T : Type 0) : Type 0 where
   pub ticks : ℕ
   pub earlier : List (Column T)
   pub latest : Option (Column T)
 
-abbrev pub no_columns : {T : Type 0} → Kept T
+abbrev pub no_columns : {T : Type 0} → Columns T
 no_columns = record { ticks = 1; earlier = []; latest = None }
 
-abbrev pub columns : {T : Type 0} → Kept T → List (Column T)
+abbrev pub columns : {T : Type 0} → Columns T → List (Column T)
 columns kept = kept.earlier ++ option_to_list kept.latest
 
 -- the most columns
@@ -33,7 +33,7 @@ abbrev pub most_columns : ℕ
 most_columns = 202
 
 -- these items are kept in few columns
-pub record IsThinned {T : Type 0} (time : T → ℕ) (items : List T) (kept : Kept T) : Type 0 where
+pub record IsThinned {T : Type 0} (time : T → ℕ) (items : List T) (kept : Columns T) : Type 0 where
   pub columns_are : AreColumns time kept.ticks items (columns kept)
   pub few : length (columns kept) ≤ most_columns
   pub none : kept.latest ≡ None → items ≡ []

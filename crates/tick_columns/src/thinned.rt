@@ -23,9 +23,9 @@ pub struct Thinned<T> {
 }
 
 impl<T> Model for Thinned<T> {
-    ghost use Rattle.tick_columns.specs.Columns.{Kept};
+    ghost use Rattle.tick_columns.specs.Columns.{Columns};
 
-    ghost Value = { Kept T };
+    ghost Value = { Columns T };
 
     ghost view = { λ t. record { ticks = t.ticks; earlier = t.earlier.items; latest = t.latest } };
 }

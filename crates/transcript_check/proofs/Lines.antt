@@ -11,7 +11,7 @@ use Rattle.transcript.specs.Rendering.{IsOfFrame}
 use Rattle.transcript.specs.declared.fault.FactError.{FactError}
 use Rattle.transcript.specs.declared.fault.FactError.TheVariants as readings
 use Rattle.transcript_check.specs.Judged.{error_of_reading}
-use Rattle.transcript_check.specs.Standing.{Maps, Standing, StandsFor, IsCheckOf, IsTaken, IsDenied, IsDue, refusal, sak_at}
+use Rattle.transcript_check.specs.Standing.{Maps, Standing, StandsFor, IsCheckOf, IsLineTaken, IsDenied, IsDue, refusal, sak_at}
 use Rattle.transcript_check.specs.inside.Steps.{IsNoted, Takes, Installs, Claims}
 use Rattle.transcript_check.specs.inside.Denying.{fact-denies}
 use Rattle.transcript_check.specs.declared.named.Named.{Named}
@@ -89,7 +89,7 @@ module _ (octets : List ℕ) (old : Standing) (after : Known) (new : Maps) (fact
     (line : IsLine old.known after octets fact) where
   pub line-taken : (r : Result Unit CheckError) → IsNote fact old.maps new r → (known : Known)
       (facts : List Fact) → IsCheckOf known facts old
-      → IfOk r (λ _. IsTaken known facts octets (standing after new))
+      → IfOk r (λ _. IsLineTaken known facts octets (standing after new))
   line-taken (Err e) note known facts is = tt
   line-taken (Ok u) note known facts is =
       let n = note.noted facts is.1 in record {

@@ -14,7 +14,7 @@ use Rattle.least_pairs.specs.Pairs.{Noted, Breaks, IsJudged, IsFound, IsOneMore}
 use Rattle.transcript_check.specs.Judged.{BreaksOnce, BreaksOneKey, fact_at, sak_here, sak_in, Use, use_of, uses, named_by, names, never, same_named, is_missed, missed_in}
 use Rattle.transcript_check.specs.Standing.{Maps, IsBound, StandsFor, AreSaksOf, IsOfEpoch, sak_at, first_of, line_by, line_of, refusal, no_epoch}
 use Rattle.transcript_check.specs.inside.Steps.{KeyIsPut, UseIsPut, IsNamed, IsUsed, IsInstalled, Installs, Claims, Takes, IsFailed}
-use Rattle.least_pairs.proofs.Public.{Kept, some-same, nat_dec, still, agreeing, first-told, found-stays, broken-now, found-is, found-again, found-first}
+use Rattle.least_pairs.proofs.Public.{KeepsFirsts, some-same, nat_dec, still, agreeing, first-told, found-stays, broken-now, found-is, found-again, found-first}
 use Rattle.transcript_check.proofs.Bound.{first-stays, install-bound}
 use Rattle.transcript_check.proofs.Ends.{at-last, at-other, goes-by, sak-stays, sak-with, use-stays, missed-more, missed-within}
 use Rattle.transcript_check.proofs.Saks.{saks-put, saks-stay}
@@ -61,10 +61,10 @@ pub key-step : (number : ℕ) (id : KeyId) (named : Named) (m new : Maps) (f g :
     → IsOneMore KeyId Named f g n (Some (id, named)) → number ≡ n
     → (o : Option (ℕ × ℕ)) → m.one_key ≡ o → (p : Option (ℕ × Named)) → first_of m id ≡ p
     → IsNamed number id named m new o p
-    → Kept KeyId Named same_named f m.one_key (first_of m)
-    → Kept KeyId Named same_named g new.one_key (first_of new)
+    → KeepsFirsts KeyId Named same_named f m.one_key (first_of m)
+    → KeepsFirsts KeyId Named same_named g new.one_key (first_of new)
 key-step number id named m new f g n go is (Some pair) broken p there step was =
-    subst (λ (w : Maps). Kept KeyId Named same_named g w.one_key (first_of w)) (sym step) (
+    subst (λ (w : Maps). KeepsFirsts KeyId Named same_named g w.one_key (first_of w)) (sym step) (
       subst (λ o. IsJudged (Breaks KeyId Named same_named g) o) (sym broken)
           (found-stays KeyId Named same_named f g n (Some (id, named)) go pair
           (subst (λ o. IsJudged (Breaks KeyId Named same_named f) o) broken was.0)),
@@ -91,16 +91,16 @@ key-step number id named m new f g n go is None whole (Some nv) there step was =
     after b e = step ∙ ap (λ b. cond b m (record m { one_key = Some (nv.0, number) })) e
 
     by-same : (b : Bool) → same_named nv.1 named ≡ b
-        → Kept KeyId Named same_named g new.one_key (first_of new)
+        → KeepsFirsts KeyId Named same_named g new.one_key (first_of new)
     by-same true e =
-        subst (λ (w : Maps). Kept KeyId Named same_named g w.one_key (first_of w)) (sym (after true e)) (
+        subst (λ (w : Maps). KeepsFirsts KeyId Named same_named g w.one_key (first_of w)) (sym (after true e)) (
           subst (λ o. IsJudged (Breaks KeyId Named same_named g) o) (sym whole)
               (agreeing KeyId Named same_named named-joins
               (λ u v s. subst (λ x. same_named u x ≡ true) s (named-itself u)) f g n id named go nv found e unbroken),
           λ s. key-same id named nv m f g n go there (was.1 whole),
         )
     by-same false e =
-        subst (λ (w : Maps). Kept KeyId Named same_named g w.one_key (first_of w)) (sym (after false e)) (
+        subst (λ (w : Maps). KeepsFirsts KeyId Named same_named g w.one_key (first_of w)) (sym (after false e)) (
           subst (λ j. IsJudged (Breaks KeyId Named same_named g) (Some (nv.0, j))) (sym is)
               (broken-now KeyId Named same_named f g n id named go unbroken nv found e),
           λ s. absurd (cc s),
@@ -140,10 +140,10 @@ pub use-step : (number s pn : ℕ) (sak : Secret) (m new : Maps) (f g : Noted Us
     → IsOneMore Use (Unit {0}) f g n (Some (the_use s pn sak, tt)) → number ≡ n
     → (o : Option (ℕ × ℕ)) → m.once ≡ o → (p : Option ℕ) → line_by m s pn sak ≡ p
     → IsUsed number s pn sak m new o p
-    → Kept Use (Unit {0}) never f m.once (line_of m)
-    → Kept Use (Unit {0}) never g new.once (line_of new)
+    → KeepsFirsts Use (Unit {0}) never f m.once (line_of m)
+    → KeepsFirsts Use (Unit {0}) never g new.once (line_of new)
 use-step number s pn sak m new f g n go is (Some pair) broken p there step was =
-    subst (λ (w : Maps). Kept Use (Unit {0}) never g w.once (line_of w)) (sym step) (
+    subst (λ (w : Maps). KeepsFirsts Use (Unit {0}) never g w.once (line_of w)) (sym step) (
       subst (λ o. IsJudged (Breaks Use (Unit {0}) never g) o) (sym broken)
           (found-stays Use (Unit {0}) never f g n (Some (the_use s pn sak, tt)) go pair
           (subst (λ o. IsJudged (Breaks Use (Unit {0}) never f) o) broken was.0)),
@@ -158,7 +158,7 @@ use-step number s pn sak m new f g n go is None whole None there put was = (
   λ e. use-found number s pn sak m new f g n go is put there (was.1 whole),
 )
 use-step number s pn sak m new f g n go is None whole (Some line) there step was =
-    subst (λ (w : Maps). Kept Use (Unit {0}) never g w.once (line_of w)) (sym step) (
+    subst (λ (w : Maps). KeepsFirsts Use (Unit {0}) never g w.once (line_of w)) (sym step) (
       subst (λ j. IsJudged (Breaks Use (Unit {0}) never g) (Some (line, j))) (sym is)
           (broken-now Use (Unit {0}) never f g n (the_use s pn sak) tt go
           (subst (λ o. IsJudged (Breaks Use (Unit {0}) never f) o) whole was.0) (line, tt)
@@ -171,10 +171,10 @@ use-step number s pn sak m new f g n go is None whole (Some line) there step was
 
 -- what stands for the facts, but for the count, while a fact is taken
 abbrev Uses : List Fact → Maps → Type 0
-Uses facts m = Kept Use (Unit {0}) never (uses facts) m.once (line_of m)
+Uses facts m = KeepsFirsts Use (Unit {0}) never (uses facts) m.once (line_of m)
 
 abbrev Keys : List Fact → Maps → Type 0
-Keys facts m = Kept KeyId Named same_named (names facts) m.one_key (first_of m)
+Keys facts m = KeepsFirsts KeyId Named same_named (names facts) m.one_key (first_of m)
 
 abbrev pub with_count : ℕ → Maps → Maps
 with_count n m = record m { count = n }

@@ -195,7 +195,7 @@ abbrev pub IsCheckOf : Known → List Fact → Standing → Type 0
 IsCheckOf known facts check = (check.known ≡ known) × StandsFor facts check.maps
 
 -- a line was taken: it tells a fact, the fact is not refused, and it counts from now on
-pub record IsTaken (known : Known) (facts : List Fact) (line : List ℕ) (now : Standing) : Type 0
+pub record IsLineTaken (known : Known) (facts : List Fact) (line : List ℕ) (now : Standing) : Type 0
   where
     pub after : Known
     pub fact : Fact

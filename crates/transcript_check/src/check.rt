@@ -3,7 +3,7 @@
 ghost use Rattle.std.specs.Prelude.{◌≡◌, ◌<◌, ◌↔◌, [], List, Err, IfOk, OnErr};
 ghost use Rattle.lan_core.specs.declared.fact.Fact.{Fact};
 ghost use Rattle.transcript_reader.specs.Facts.{Known, nothing};
-ghost use Rattle.transcript_check.specs.Standing.{IsCheckOf, IsVerdict, IsTaken, IsDenied, IsDue};
+ghost use Rattle.transcript_check.specs.Standing.{IsCheckOf, IsVerdict, IsLineTaken, IsDenied, IsDue};
 ghost use Rattle.transcript_check.specs.declared.fault.CheckError.TheVariants.{Refused, Memory};
 ghost use Rattle.transcript_check.specs.declared.fault.CheckFault.{CheckFault};
 
@@ -45,7 +45,7 @@ impl Check {
     pub fn line(&mut self, alloc: Global, line: &[u8]) -> Result<(), CheckError>
         requires { self.old.maps.count < 18446744073709551615 }
         ensures taken { (known : Known) (facts : List Fact) → IsCheckOf known facts self.old
-            → IfOk result (λ _. IsTaken known facts line.now self.new) }
+            → IfOk result (λ _. IsLineTaken known facts line.now self.new) }
         ensures refused { (known : Known) (facts : List Fact) → IsCheckOf known facts self.old
             → (why : CheckFault)
             → (result ≡ Err (Refused why)) ↔ IsDenied known facts line.now why }

@@ -12,14 +12,14 @@ use Rattle.transcript_reader.proofs.Public.{answers-as, ends-as, not-begun, unan
 use Rattle.transcript_check.specs.declared.fault.CheckFault.{CheckFault}
 use Rattle.transcript_check.specs.Standing.{by_epochs}
 use Rattle.transcript_picture.specs.Transcripts.{AreDrawn, EndsDrawing}
-use Rattle.transcript_picture.specs.inside.Sketching.{Kept, sketched}
+use Rattle.transcript_picture.specs.inside.Sketching.{KeptSketch, sketched}
 
 -- nothing was read, for want of memory
 pub not-drawn : {X : Type 0} (text : List ℕ) (left : Sourced) → EndsDrawing {X = X} text left left (Err ends.Memory)
 not-drawn {X} text left =
     not-begun X by_epochs (λ facts. Unit {0}) (AreDrawn {X = X} (Err ends.Memory)) text left tt tt
 
-module _ {K : Type 0} (Held : List Fact → Type 0) (first last : Moment Kept K) (text : List ℕ) (left now : Sourced) where
+module _ {K : Type 0} (Held : List Fact → Type 0) (first last : Moment KeptSketch K) (text : List ℕ) (left now : Sourced) where
   -- all lines were taken, and there was memory for the picture or not
   pub drawn-end : {X : Type 0} (r : Result X (Unfinished CheckFault)) → IfErr r (λ why. why ≡ ends.Memory)
       → EndsReading by_epochs Held (Reached {F = CheckFault} sketched first last (Ok (tt {0}))) text left now (Ok (tt {0}))

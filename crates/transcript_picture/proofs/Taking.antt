@@ -9,7 +9,7 @@ use Rattle.transcript_check.specs.declared.fault.CheckError.TheVariants.{Refused
 use Rattle.transcript_check.specs.declared.fault.CheckFault.{CheckFault}
 use Rattle.transcript_check.specs.Judged.{error_of_taking}
 use Rattle.transcript_check.specs.Standing.{AreSaksOf, Saks, by_epochs, refusal}
-use Rattle.transcript_picture.specs.inside.Sketching.{IsSketchOf, Kept, Refuses, Sketches, sketched}
+use Rattle.transcript_picture.specs.inside.Sketching.{IsSketchOf, KeptSketch, Refuses, Sketches, sketched}
 
 -- a fact was asked for, and this was answered
 abbrev IsAsked : Fact → Saks → Result (Unit {0}) CheckError → Type 0
@@ -24,19 +24,19 @@ asked-free facts fact saks u are asked = go (refusal facts fact) refl
     go None e = e
     go (Some why) e = absurd (cc ((asked facts are why).1 e))
 
-pub asked-not : (facts : List Fact) (fact : Fact) (old new : Kept) (error : CheckError) → AreSaksOf facts old.saks
+pub asked-not : (facts : List Fact) (fact : Fact) (old new : KeptSketch) (error : CheckError) → AreSaksOf facts old.saks
     → IsAsked fact old.saks (Err error) → new ≡ old → Sketches facts fact old new (Err error)
 asked-not facts fact old new (Refused why) are asked same = ((asked facts are why).0 refl, same)
 asked-not facts fact old new Memory are asked same = tt
 
 -- what sketching a fact is to a taker of facts
-pub sketch-taken : {K : Type 0} (first now : Moment Kept K) (facts : List Fact) (fact : Fact) (old : Kept) (u v : Unit {0})
+pub sketch-taken : {K : Type 0} (first now : Moment KeptSketch K) (facts : List Fact) (fact : Fact) (old : KeptSketch) (u v : Unit {0})
     → Sketches facts fact old now.taker (Ok u) → TakesFact by_epochs Refuses sketched first facts fact now (Ok v)
 sketch-taken first now facts fact old u v is = is
 
-pub sketch-not : {K : Type 0} (first now : Moment Kept K) (facts : List Fact) (fact : Fact) (old : Kept)
+pub sketch-not : {K : Type 0} (first now : Moment KeptSketch K) (facts : List Fact) (fact : Fact) (old : KeptSketch)
     (error : CheckError) → IsSketchOf facts old → Sketches facts fact old now.taker (Err error)
     → TakesFact by_epochs Refuses sketched first facts fact now (Err (error_of_taking error))
 sketch-not first now facts fact old (Refused why) stands is =
-    (is.0, subst (λ (k : Kept). IsSketchOf facts k) (sym is.1) stands)
+    (is.0, subst (λ (k : KeptSketch). IsSketchOf facts k) (sym is.1) stands)
 sketch-not first now facts fact old Memory stands is = inl tt

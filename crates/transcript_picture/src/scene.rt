@@ -24,9 +24,9 @@ pub struct Scene {
 }
 
 impl Model for Scene {
-    ghost use Rattle.key_spans.specs.Standing.{Kept};
+    ghost use Rattle.key_spans.specs.Standing.{KeptSpans};
 
-    ghost Value = { Kept };
+    ghost Value = { KeptSpans };
 
     ghost view = { λ s. s.spans };
 }

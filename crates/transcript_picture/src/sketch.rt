@@ -19,9 +19,9 @@ pub struct Sketch {
 }
 
 impl Model for Sketch {
-    ghost use Rattle.transcript_picture.specs.inside.Sketching.{Kept};
+    ghost use Rattle.transcript_picture.specs.inside.Sketching.{KeptSketch};
 
-    ghost Value = { Kept };
+    ghost Value = { KeptSketch };
 
     ghost view = { λ s. record { saks = s.epochs; spans = s.scene } };
 }

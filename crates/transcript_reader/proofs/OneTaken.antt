@@ -9,7 +9,7 @@ use Rattle.transcript_reader.specs.Facts.{Known, Tells}
 use Rattle.transcript_reader.specs.Taking.{Courses, Rule, TakesFact}
 use Rattle.transcript_reader.specs.declared.take_error.TakeError.{TakeError}
 use Rattle.transcript_reader.specs.declared.take_error.TakeError.TheVariants.{Refused, Failed, Memory}
-use Rattle.transcript_reader.specs.inside.Lines.{Comes, TookPart, not_read}
+use Rattle.transcript_reader.specs.inside.Lines.{TookBy, TookPart, not_read}
 
 module _ {F T K : Type 0} (rule : Rule F) (courses : Courses T K) (first : Moment T K) (known : Known)
     (facts : List Fact) (line : List ℕ) where
@@ -40,7 +40,7 @@ module _ {F T K : Type 0} (rule : Rule F) (courses : Courses T K) (first : Momen
 
     pub fact-taken : (u : Unit {0}) (count more : ℕ) (now : Moment T K) → count ≡ length facts → more ≡ count + 1
         → rule.Free facts fact × courses.Took first (facts ++ fact ∷ []) now
-        → Comes rule courses first known facts (line ∷ []) after more now (Ok u)
+        → TookBy rule courses first known facts (line ∷ []) after more now (Ok u)
     fact-taken u count more now counts one t = record {
       told = facts ++ fact ∷ [];
       taken = (after, fact, tells, t.0, (refl, refl));
@@ -52,7 +52,7 @@ module _ {F T K : Type 0} (rule : Rule F) (courses : Courses T K) (first : Momen
         → ((why : F) → Refuses facts fact why → rule.Denies known facts line why)
         → (count : ℕ) (now : Moment T K) (error : TakeError F) → count ≡ length facts
         → TakesFact rule Refuses courses first facts fact now (Err error)
-        → Comes rule courses first known facts (line ∷ []) after count now (Err error)
+        → TookBy rule courses first known facts (line ∷ []) after count now (Err error)
     fact-stopped Refuses denied count now (Refused why) counts t = record {
       earlier = [];
       line = line;
@@ -73,7 +73,7 @@ module _ {F T K : Type 0} (rule : Rule F) (courses : Courses T K) (first : Momen
   pub line-unread : (count : ℕ) (now : Moment T K) (then : Known) (fault : FactError) (unread : F) → count ≡ length facts
       → courses.Took first facts now → (courses.Took first facts now → courses.Broke first facts now)
       → (fault ≡ readings.Unread → rule.Denies known facts line unread)
-      → Comes rule courses first known facts (line ∷ []) then count now (Err (not_read fault unread))
+      → TookBy rule courses first known facts (line ∷ []) then count now (Err (not_read fault unread))
   line-unread count now then readings.Unread unread counts took breaks denied = record {
     earlier = [];
     line = line;

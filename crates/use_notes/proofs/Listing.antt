@@ -11,11 +11,11 @@ use Rattle.use_notes.specs.declared.counts.Counts.{Counts}
 use Rattle.use_notes.specs.declared.notes.Use.{Use}
 use Rattle.use_notes.specs.Frames.{frames_of}
 use Rattle.use_notes.specs.Uses.{use_cmp, is_use_of, use_told, AreUsesOf}
-use Rattle.use_notes.specs.Standing.{Kept, KeepsSome, Notes, StandsFor}
+use Rattle.use_notes.specs.Standing.{KeptOfUse, KeepsSome, Notes, StandsFor}
 use Rattle.use_notes.proofs.Firsts.{equal}
 use Rattle.use_notes.proofs.Putting.{Senders, exact-use}
 
-abbrev pub use_at : (ℕ × Sci) × Kept → Use
+abbrev pub use_at : (ℕ × Sci) × KeptOfUse → Use
 use_at e = record { key = e.0.0; sci = e.0.1; counts = e.1.counts }
 
 -- nothing is left of a list that was gone over
@@ -24,11 +24,11 @@ pub all-listed : (us : List Use) (left es : Senders) → us ++ map use_at left �
 all-listed us left es both none =
     sym (append-nil us) ∙ ap (λ (xs : Senders). us ++ map use_at xs) (sym none) ∙ both
 
-keys-stay : (es : Senders) → map (λ (u : Use). (u.key, u.sci)) (map use_at es) ≡ map (λ (e : (ℕ × Sci) × Kept). e.0) es
+keys-stay : (es : Senders) → map (λ (u : Use). (u.key, u.sci)) (map use_at es) ≡ map (λ (e : (ℕ × Sci) × KeptOfUse). e.0) es
 keys-stay [] = refl
 keys-stay (e ∷ es) = ap (λ (ks : List (ℕ × Sci)). e.0 ∷ ks) (keys-stay es)
 
-abbrev use_kept : ℕ → Sci → Kept → Use
+abbrev use_kept : ℕ → Sci → KeptOfUse → Use
 use_kept key sci kept = record { key = key; sci = sci; counts = kept.counts }
 
 found-kept : (key : ℕ) (sci : Sci) (es : Senders)
@@ -45,7 +45,7 @@ found-kept key sci (e ∷ es) = go (is_at (use_cmp (key, sci)) e.0) refl (found-
         ap (λ (at : ℕ × Sci). Some (use_kept at.0 at.1 e.1)) (sym same)
     go false is later = later
 
-told-of : (key : ℕ) (sci : Sci) (fs : List RightFrame) (o : Option Kept) → KeepsSome fs o
+told-of : (key : ℕ) (sci : Sci) (fs : List RightFrame) (o : Option KeptOfUse) → KeepsSome fs o
     → option_map (use_kept key sci) o ≡ use_told key sci fs
 told-of key sci fs None none = ap (use_told key sci) (sym none)
 told-of key sci [] (Some kept) some = absurd (omega (arith, some))
@@ -53,7 +53,7 @@ told-of key sci (e ∷ fs) (Some kept) some =
     ap (λ (counts : Counts). Some (record { key = key; sci = sci; counts = counts })) some.1.counts
 
 pub listed : (h : List RightFrame) (notes : Notes) (us : List Use) → StandsFor h notes
-    → IsStrictlySortedBy use_cmp (map (λ (e : (ℕ × Sci) × Kept). e.0) notes.senders)
+    → IsStrictlySortedBy use_cmp (map (λ (e : (ℕ × Sci) × KeptOfUse). e.0) notes.senders)
     → us ≡ map use_at notes.senders → AreUsesOf h us
 listed h notes us stands ordered is =
     subst (AreUsesOf h) (sym is) (record {

@@ -13,7 +13,7 @@ use Rattle.use_notes.specs.declared.novelty.Novelty.{Novelty}
 use Rattle.use_notes.specs.Frames.{IsBehind, AreInOrder, is_of, frames_of, novelty_in}
 use Rattle.use_notes.specs.Once.{reuse_by, first_reuse}
 use Rattle.use_notes.specs.Uses.{use_cmp}
-use Rattle.use_notes.specs.Standing.{Kept, Keeps, KeepsSome, Notes, StandsFor, kept_at}
+use Rattle.use_notes.specs.Standing.{KeptOfUse, Keeps, KeepsSome, Notes, StandsFor, kept_at}
 use Rattle.use_notes.specs.inside.Putting.{IsPutAt}
 use Rattle.use_notes.proofs.Firsts.{Changes, untouched}
 use Rattle.use_notes.proofs.Numbers.{sci-of, of-itself, is-of}
@@ -25,10 +25,10 @@ pub exact-use : CmpEqualImpliesEq use_cmp
 exact-use a b e = exact_pairs nat_cmp (λ (a b : Sci). slice_cmp nat_cmp a.0 b.0) exact_unsigned exact-sci a b e
 
 abbrev pub Senders : Type 0
-Senders = List ((ℕ × Sci) × Kept)
+Senders = List ((ℕ × Sci) × KeptOfUse)
 
 -- what is kept under a key and a sender was put
-pub put-at : (at : ℕ × Sci) (fs : List RightFrame) (kept : Kept) (old new : Senders) → Keeps fs kept
+pub put-at : (at : ℕ × Sci) (fs : List RightFrame) (kept : KeptOfUse) (old new : Senders) → Keeps fs kept
     → Changes use_cmp at kept old new → lookup (is_at (use_cmp at)) new ≡ Some kept
     → IsPutAt at fs old new
 put-at at fs kept old new keeps changes here = record {

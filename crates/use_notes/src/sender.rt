@@ -20,9 +20,9 @@ pub struct SenderNotes {
 }
 
 impl Model for SenderNotes {
-    ghost use Rattle.use_notes.specs.Standing.{Kept};
+    ghost use Rattle.use_notes.specs.Standing.{KeptOfUse};
 
-    ghost Value = { Kept };
+    ghost Value = { KeptOfUse };
 
     ghost view = { λ s. record { firsts = s.firsts.entries; counts = s.counts } };
 }

@@ -27,7 +27,7 @@ use Rattle.association_slots.specs.declared.view.Addition.{Addition}
 use Rattle.association_slots.specs.declared.view.ControlView.{ControlView}
 use Rattle.packet_claims.specs.declared.answers.NoClaim.TheVariants.{NoKey}
 use Rattle.data_workers.specs.Entries.{frame_under}
-use Rattle.data_workers.specs.Logs.{IsTaken, claim_of}
+use Rattle.data_workers.specs.Logs.{IsProtectedBy, claim_of}
 use Rattle.data_workers.specs.Workers.{IsDone, WorkerAt}
 use Rattle.data_workers.specs.declared.entry.Entry.{Entry}
 use Rattle.data_workers.specs.declared.entry.Entry.TheVariants.{Taken, Refused}
@@ -271,7 +271,7 @@ bob_did = record bob_seat {
   reads = reads;
 }
 
-alice-took : (pn : ℕ) → In (claim pn) (claim 2 ∷ claim 1 ∷ []) → 1 ≤ pn → pn ≤ 2 → IsTaken alice_did (sender 0) (frame 0 pn)
+alice-took : (pn : ℕ) → In (claim pn) (claim 2 ∷ claim 1 ∷ []) → 1 ≤ pn → pn ≤ 2 → IsProtectedBy alice_did (sender 0) (frame 0 pn)
 alice-took pn there low high = record {
   of_station = refl;
   claim = there;
@@ -285,7 +285,7 @@ alice-took pn there low high = record {
       (record { an = An0; epoch = 1; next = 1 }) (omega arith, λ an e. low);
 }
 
-bob-took : IsTaken bob_did (sender 1) (frame 1 1)
+bob-took : IsProtectedBy bob_did (sender 1) (frame 1 1)
 bob-took = record {
   of_station = refl;
   claim = inl refl;

@@ -10,7 +10,7 @@ use Rattle.aes_block.specs.declared.secret.Secret.{Secret}
 use Rattle.sak_exchange.specs.declared.held_key.HeldKey.{HeldKey}
 use Rattle.sak_exchange.specs.declared.held_key.Key.{Key}
 use Rattle.sak_exchange.specs.Histories.{Keying, began, install_count, installed, installs, ticked}
-use Rattle.sak_exchange.specs.Held.{Kept}
+use Rattle.sak_exchange.specs.Held.{KeepsRules}
 use Rattle.sak_exchange.specs.Lives.{Has}
 use Rattle.mka_station.specs.Hearing.{hear_turn}
 use Rattle.mka_station.specs.Lives.{keys_of}
@@ -41,28 +41,28 @@ unfolding keys_of
 keys-new l none = rw none refl
 
 kept-run : (settings : Settings) (users : List UserFrame) (r : Run) → IsStepped settings users r
-    → (u : ℕ) (l : Life) → life settings u r ≡ Some l → Kept l.member.base (keys_in l)
+    → (u : ℕ) (l : Life) → life settings u r ≡ Some l → KeepsRules l.member.base (keys_in l)
 unfolding life
 kept-run settings users [] stepped u l e = absurd (cc e)
 kept-run settings users (x ∷ r) stepped u l e = elim (part settings users u x r stepped.0) [
   | parts.same same none ↦ kept-run settings users r stepped.1 u l (sym same ∙ e)
   | parts.ticks next m ev living same ↦ (
       let now : lived m (turn_at_tick settings u r m next (sak_in x.facts)) ≡ l = let f = sym same ∙ e in cc f in
-      subst (λ (w : Life). Kept w.member.base (keys_in w)) now
+      subst (λ (w : Life). KeepsRules w.member.base (keys_in w)) now
       (kept-turn m.member.base (keys_in m) _ (tick-is_turn m.member (seen_at settings u r m next) (sak_in x.facts) m.past)
       (kept-run settings users r stepped.1 u m living)))
   | parts.hears number octets m a came living sec right same ↦ (
       let now : lived m (hear_turn m.member a m.past) ≡ l = let f = sym same ∙ e in cc f in
-      subst (λ (w : Life). Kept w.member.base (keys_in w)) now
+      subst (λ (w : Life). KeepsRules w.member.base (keys_in w)) now
       (kept-turn m.member.base (keys_in m) _ (hear-is_turn m.member a m.past) (kept-run settings users r stepped.1 u m living)))
   | parts.born m none birth same fact ↦ (
       let now : m ≡ l = let f = sym same ∙ e in cc f in
-      subst (λ (w : Life). Kept w.member.base (keys_in w)) now (subst (λ w. Kept m.member.base w) (sym (keys-new m none)) tt))
+      subst (λ (w : Life). KeepsRules w.member.base (keys_in w)) now (subst (λ w. KeepsRules m.member.base w) (sym (keys-new m none)) tt))
 ]
 
 -- ---- epochs of installed keys
 
-epoch-within : (base : ℕ) (h : List Keying) (k : Key) → Kept base h → Has k (installs h)
+epoch-within : (base : ℕ) (h : List Keying) (k : Key) → KeepsRules base h → Has k (installs h)
     → (0 < k.epoch) × (k.epoch ≤ base + install_count h)
 epoch-within base [] k kept has = absurd has
 epoch-within base (ticked s ∷ h) k kept has = epoch-within base h k kept has

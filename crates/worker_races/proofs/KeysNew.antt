@@ -15,7 +15,7 @@ use Rattle.sak_exchange.specs.declared.held_key.HeldKey.{HeldKey}
 use Rattle.sak_exchange.specs.declared.held_key.Key.{Key}
 use Rattle.sak_exchange.specs.Beginning.{Beginning}
 use Rattle.sak_exchange.specs.Histories.{Keying, install_count, installs, last_key}
-use Rattle.sak_exchange.specs.Held.{Kept, has_epoch, held, latest, old, received}
+use Rattle.sak_exchange.specs.Held.{KeepsRules, has_epoch, held, latest, old, received}
 use Rattle.sak_exchange.specs.Lives.{Has}
 use Rattle.mka_station.specs.Hearing.{hear_turn}
 use Rattle.mka_station.specs.Lives.{keys_of}
@@ -231,7 +231,7 @@ new-shown settings s x r k counted new =
 
 -- and held under the association number that they show
 pub new-held : (settings : Settings) (users : List UserFrame) (s : ℕ) (x : Happening) (r : Run) (k : Key) (l : Life)
-    (an : AssociationNumber) (g : HeldKey) → Kept l.member.base (keys_in l)
+    (an : AssociationNumber) (g : HeldKey) → KeepsRules l.member.base (keys_in l)
     → life settings s (x ∷ r) ≡ Some l → Has k (installs (keys_in l))
     → held_at settings s (x ∷ r) an ≡ Some g → g.key.epoch ≡ k.epoch → g.key ≡ k
 new-held settings users s x r k l an g kept living has is same =

@@ -32,7 +32,7 @@ use Rattle.association_slots.specs.declared.view.NextSeen.{NextSeen}
 use Rattle.association_slots.specs.declared.view.SeatView.{SeatView}
 use Rattle.packet_claims.specs.declared.answers.NoClaim.TheVariants.{NoKey}
 use Rattle.data_workers.specs.Entries.{frame_under}
-use Rattle.data_workers.specs.Logs.{IsTaken, claim_of}
+use Rattle.data_workers.specs.Logs.{IsProtectedBy, claim_of}
 use Rattle.data_workers.specs.Workers.{IsDone, WorkerAt}
 use Rattle.data_workers.specs.declared.entry.Entry.{Entry}
 use Rattle.data_workers.specs.declared.entry.Entry.TheVariants.{Taken, Refused}
@@ -373,7 +373,7 @@ alice_did = record alice_seat {
 abbrev bob_did : SeatView
 bob_did = record bob_seat { loads = 1; notes = 0 ∷ [] }
 
-took-old : IsTaken alice_did (sender 0) old_frame
+took-old : IsProtectedBy alice_did (sender 0) old_frame
 took-old = record {
   of_station = refl;
   claim = inr (inl refl);
@@ -387,7 +387,7 @@ took-old = record {
       (seen 2) (omega arith, λ an e. omega arith);
 }
 
-took-new : IsTaken alice_did (sender 0) new_frame
+took-new : IsProtectedBy alice_did (sender 0) new_frame
 took-new = record {
   of_station = refl;
   claim = inl refl;

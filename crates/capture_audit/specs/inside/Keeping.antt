@@ -15,7 +15,7 @@ use Rattle.known_keys.specs.Numbered.{number_in, most_keys}
 use Rattle.known_keys.specs.declared.fault.KeyError.{KeyError}
 use Rattle.known_keys.specs.declared.fault.KeyError.TheVariants.{TooManyKeys, Memory as KeyMemory}
 use Rattle.known_keys.specs.History.{Entry, Gave, keys}
-use Rattle.known_keys.specs.Standing.{Kept, StandsFor as KnownStandsFor}
+use Rattle.known_keys.specs.Standing.{KeptKeys, StandsFor as KnownStandsFor}
 use Rattle.member_notes.specs.declared.mkpdu.RightMkpdu.{RightMkpdu}
 use Rattle.member_notes.specs.Standing.{StandsFor as MembersStandFor}
 use Rattle.packet_verdicts.specs.declared.given.Gift.{Gift}
@@ -101,7 +101,7 @@ NotesSec groups told rights spelled n nanos newest sec new it =
 -- ---- a key that is given
 
 -- what a packet that gives a key, or none, did to the known keys
-abbrev pub HandsOver : List Entry → ℕ → ℕ → ℕ → Option Gift → Kept → Kept
+abbrev pub HandsOver : List Entry → ℕ → ℕ → ℕ → Option Gift → KeptKeys → KeptKeys
     → Result (Option Handed) KeyError → Type 0
 HandsOver told n nanos group gift old new (Ok it) =
     (it ≡ handed told n nanos group gift)
@@ -112,7 +112,7 @@ HandsOver told n nanos group gift old new (Err TooManyKeys) =
 HandsOver told n nanos group gift old new (Err KeyMemory) = ⊤
 
 -- of one that gives this
-abbrev pub HandsGift : List Entry → ℕ → ℕ → ℕ → Gift → Result Secret NoSak → Kept → Kept
+abbrev pub HandsGift : List Entry → ℕ → ℕ → ℕ → Gift → Result Secret NoSak → KeptKeys → KeptKeys
     → Result Handed KeyError → Type 0
 HandsGift told n nanos group gift sak old new (Ok it) =
     (it ≡ handed_by told n nanos group gift sak)
@@ -123,7 +123,7 @@ HandsGift told n nanos group gift sak old new (Err TooManyKeys) =
 HandsGift told n nanos group gift sak old new (Err KeyMemory) = ⊤
 
 -- of one that gives none, for this reason
-abbrev pub HandsNone : List Entry → ℕ → ℕ → ℕ → Gift → NoSak → Kept → Handed → Type 0
+abbrev pub HandsNone : List Entry → ℕ → ℕ → ℕ → Gift → NoSak → KeptKeys → Handed → Type 0
 HandsNone told n nanos group gift why new it =
     (it ≡ handed_by told n nanos group gift (Err why))
     × KnownStandsFor (Gave n nanos group gift.id gift.an (giving_by gift.offset (Err why)) ∷ told) new
@@ -227,7 +227,7 @@ abbrev pub numbered_among : List Secret → List HandKey → List (ℕ × HandKe
 numbered_among saks hand = map (λ key. (unwrap_or (number_in saks key.sak) 0, key)) hand
 
 -- so many were set, and their lines stand behind others
-pub record AreSetUpTo (hand : List HandKey) (count : ℕ) (known : Kept) (text text_then : List ℕ) : Type 0
+pub record AreSetUpTo (hand : List HandKey) (count : ℕ) (known : KeptKeys) (text text_then : List ℕ) : Type 0
   where
     pub told : List Entry
     pub done : List (ℕ × HandKey)
@@ -239,7 +239,7 @@ pub record AreSetUpTo (hand : List HandKey) (count : ℕ) (known : Kept) (text t
         ≡ numbered_among (keys (set_behind [] hand)) hand
 
 -- what setting keys did
-abbrev pub SetsKeys : List HandKey → Kept → List ℕ → List ℕ → Result (Unit {0}) AuditEnd → Type 0
+abbrev pub SetsKeys : List HandKey → KeptKeys → List ℕ → List ℕ → Result (Unit {0}) AuditEnd → Type 0
 SetsKeys hand new text text_then (Ok done) =
     KnownStandsFor (set_behind [] hand) new
     × (length (keys (set_behind [] hand)) ≤ most_keys)

@@ -316,7 +316,7 @@ pub record Scene (users : List UserFrame) (ps : List Profile) (r : Run) (ls : Li
   pub unforged : IsUnforged settings r
 
 -- what a new event has to bring
-pub record Comes (users : List UserFrame) (ps : List Profile) (x : Happening) (r : Run)
+pub record ExtendsScene (users : List UserFrame) (ps : List Profile) (x : Happening) (r : Run)
     (ls : Lives) : Type 0 where
   pub there : stations (x ∷ r) ≡ ps
   pub living : (s : ℕ) → s < length ps → life settings s (x ∷ r) ≡ Some (ls s)
@@ -330,7 +330,7 @@ pub record Comes (users : List UserFrame) (ps : List Profile) (x : Happening) (r
 
 pub goes-on : (users : List UserFrame) (ps qs : List Profile) (x : Happening) (r : Run)
     (ls ms : Lives)
-    → Scene users ps r ls → Comes users qs x r ms → Scene users qs (x ∷ r) ms
+    → Scene users ps r ls → ExtendsScene users qs x r ms → Scene users qs (x ∷ r) ms
 goes-on users ps qs x r ls ms v c = record {
   there = c.there;
   living = c.living;

@@ -16,7 +16,7 @@ use Rattle.sak_exchange.specs.declared.held_key.Key.{Key}
 use Rattle.sak_exchange.specs.Histories.{Keying, clock, installs, install_count, begun_at, has_begun}
 use Rattle.sak_exchange.specs.Histories.{last_key, last_begun}
 use Rattle.sak_exchange.specs.Histories as keyings
-use Rattle.sak_exchange.specs.Held.{Kept, received, ends, held, shown, latest, transmitting}
+use Rattle.sak_exchange.specs.Held.{KeepsRules, received, ends, held, shown, latest, transmitting}
 use Rattle.sak_exchange.specs.Held.{has_epoch, may_begin}
 use Rattle.sak_exchange.specs.Beginning.{Beginning, retired}
 use Rattle.sak_exchange.specs.Outcomes.{beginning}
@@ -167,7 +167,7 @@ abbrev left_of : Carried → Option Key → (Key → Bool) → Carried
 left_of k None p = k
 left_of k (Some t) p = cond (p t) (gone_after t.epoch k) k
 
-drops-left : (base : ℕ) (h : List Keying) (k : Carried) (p : Key → Bool) → Kept base h → Carries base h k → drops (filter p (received h)) k ≡ left_of k (transmitting h) p
+drops-left : (base : ℕ) (h : List Keying) (k : Carried) (p : Key → Bool) → KeepsRules base h → Carries base h k → drops (filter p (received h)) k ≡ left_of k (transmitting h) p
 drops-left base h k p kept carries =
     by_option (transmitting h)
     (λ none. drops-absent (filter p (received h)) k (carried-none base h k carries none) ∙ rw none refl)
@@ -206,7 +206,7 @@ abbrev EpochsDiffer : List Key → Type 0
 EpochsDiffer [] = Unit {0}
 EpochsDiffer (k ∷ ks) = NoneIsOf k.epoch ks × EpochsDiffer ks
 
-epochs-differ : (base : ℕ) (h : List Keying) → Kept base h → EpochsDiffer (received h)
+epochs-differ : (base : ℕ) (h : List Keying) → KeepsRules base h → EpochsDiffer (received h)
 epochs-differ base h kept =
     elim (shape base h kept) [
       | none r ↦ rw r tt
@@ -237,7 +237,7 @@ last-begins (keyings.installed r k ∷ h) e is = last-begins h e is
 last-begins (keyings.began f ∷ h) e is = let same : f ≡ e = cc is in rw (eq-eqb f e same) refl
 
 -- the key that transmits is not retired
-transmits-on : (base : ℕ) (h : List Keying) (t : Key) → Kept base h → transmitting h ≡ Some t → ends (keyings.ticked true) h t ≡ false
+transmits-on : (base : ℕ) (h : List Keying) (t : Key) → KeepsRules base h → transmitting h ≡ Some t → ends (keyings.ticked true) h t ≡ false
 transmits-on base h t kept is =
     by_test (ends (keyings.ticked true) h t)
     (λ y. let by = retired-by h t.epoch (installs h) y in
@@ -245,7 +245,7 @@ transmits-on base h t kept is =
     let less = by.less in absurd (omega arith))
     (λ y. y)
 
-transmitting-ticked : (base : ℕ) (h : List Keying) → Kept base h → transmitting (keyings.ticked true ∷ h) ≡ transmitting h
+transmitting-ticked : (base : ℕ) (h : List Keying) → KeepsRules base h → transmitting (keyings.ticked true ∷ h) ≡ transmitting h
 unfolding transmitting received
 transmitting-ticked base h kept = by_option (transmitting h) (λ none. absent none ∙ sym none) (λ t some. present t some ∙ sym some)
   where
@@ -257,7 +257,7 @@ transmitting-ticked base h kept = by_option (transmitting h) (λ none. absent no
     present t is = by_option (last_begun h) (λ none. let e = rw none at is in absurd (cc e))
         (λ e some. rw some (find-left (has_epoch e) (λ k. not (ends (keyings.ticked true) h k)) (received h) t (rw some at is) (ap not (transmits-on base h t kept is))))
 
-carries-ticked : (base : ℕ) (h : List Keying) (k : Carried) → Kept base h → Carries base h k → Carries base (keyings.ticked true ∷ h) k
+carries-ticked : (base : ℕ) (h : List Keying) (k : Carried) → KeepsRules base h → Carries base h k → Carries base (keyings.ticked true ∷ h) k
 carries-ticked base h k kept carries = record {
   installs = carries.installs;
   shows = carries.shows ∙ ap (option_map (λ (key : Key). (key.an, key.epoch))) (sym (transmitting-ticked base h kept));
@@ -302,7 +302,7 @@ unfolding transmitting received
 dropped-none h = by_option (last_begun h) (λ none. rw none refl) (λ e some. rw some (ap (find (has_epoch e)) (none-kept (received h))))
 
 -- a tick with no elected server drops every key
-pub goes-dropped : (base : ℕ) (h : List Keying) (k : Carried) → Kept base h → Carries base h k → Goes base (keyings.ticked false ∷ h) (map (λ j. changes.Dropped (held h j)) (received h)) k
+pub goes-dropped : (base : ℕ) (h : List Keying) (k : Carried) → KeepsRules base h → Carries base h k → Goes base (keyings.ticked false ∷ h) (map (λ j. changes.Dropped (held h j)) (received h)) k
 goes-dropped base h k kept carries = (
   left base h k (λ _. true) carries,
   dropped-moves h (received h) k ∙ ap Some (ap (λ ks. drops ks k) (sym (filter-all (received h))) ∙ drops-left base h k (λ _. true) kept carries),
@@ -313,11 +313,11 @@ goes-dropped base h k kept carries = (
   },
 )
 
-goes-retired : (base : ℕ) (h : List Keying) (k : Carried) → Kept base h → Carries base h k → Goes base (keyings.ticked true ∷ h) (option_to_list (option_map (λ j. changes.Retired (held h j)) (retired h))) k
+goes-retired : (base : ℕ) (h : List Keying) (k : Carried) → KeepsRules base h → Carries base h k → Goes base (keyings.ticked true ∷ h) (option_to_list (option_map (λ j. changes.Retired (held h j)) (retired h))) k
 unfolding moved_all
 goes-retired base h k kept carries = (k, by_option (retired h) (λ none. rw none refl) (λ o some. rw some refl), carries-ticked base h k kept carries)
 
-pub goes-ended : (base : ℕ) (h : List Keying) (server : Option Mi) (k : Carried) → Kept base h → Carries base h k → Goes base (keyings.ticked (is_some server) ∷ h) (ended_by h server) k
+pub goes-ended : (base : ℕ) (h : List Keying) (server : Option Mi) (k : Carried) → KeepsRules base h → Carries base h k → Goes base (keyings.ticked (is_some server) ∷ h) (ended_by h server) k
 goes-ended base h None k kept carries = goes-dropped base h k kept carries
 goes-ended base h (Some server) k kept carries = goes-retired base h k kept carries
 
@@ -330,13 +330,13 @@ some-installed (keyings.installed r k ∷ h) l is = omega arith
 some-installed (keyings.began e ∷ h) l is = some-installed h l is
 
 -- the latest key transmits once it began
-begun-transmits : (base : ℕ) (h : List Keying) (l : Key) → Kept base h → latest h ≡ Some l → transmitting (keyings.began l.epoch ∷ h) ≡ Some l
+begun-transmits : (base : ℕ) (h : List Keying) (l : Key) → KeepsRules base h → latest h ≡ Some l → transmitting (keyings.began l.epoch ∷ h) ≡ Some l
 unfolding transmitting received
 begun-transmits base h l kept first =
     let at = first-is base h l kept first in
     ap (find (has_epoch l.epoch)) (filter-all (received h) ∙ at.received) ∙ (let same : (l.epoch == l.epoch) ≡ true = eq-eqb l.epoch l.epoch refl in rw same refl)
 
-pub goes-began : (base : ℕ) (h : List Keying) (b : Beginning) (k : Carried) → Kept base h → may_begin h b.key.epoch ≡ true → latest h ≡ Some b.key → Carries base h k
+pub goes-began : (base : ℕ) (h : List Keying) (b : Beginning) (k : Carried) → KeepsRules base h → may_begin h b.key.epoch ≡ true → latest h ≡ Some b.key → Carries base h k
     → Goes base (keyings.began b.key.epoch ∷ h) (beginning h (Some b)).changes k
 unfolding moved_all
 goes-began base h b k kept may first carries = (
@@ -387,7 +387,7 @@ goes-began base h b k kept may first carries = (
     allowed = and_from _ _ (lt-ltb (now k).epoch b.key.epoch above)
         (and_from _ _ (le-leb b.key.epoch k.installs (let z = carries.installs in let y = epoch_is in omega arith)) (ap not not_there))
 
-pub goes-begun : (base : ℕ) (h : List Keying) (b : Option Beginning) (k : Carried) → Kept base h
+pub goes-begun : (base : ℕ) (h : List Keying) (b : Option Beginning) (k : Carried) → KeepsRules base h
     → ((c : Beginning) → b ≡ Some c → (may_begin h c.key.epoch ≡ true) × (latest h ≡ Some c.key))
     → Carries base h k → Goes base (with_began b h) (beginning h b).changes k
 goes-begun base h None k kept may carries = goes-nowhere base h k carries
@@ -396,7 +396,7 @@ goes-begun base h (Some b) k kept may carries = let m = may b refl in goes-began
 -- ---- a key is installed
 
 -- an install leaves the key that transmits, unless it ends it
-transmitting-installed : (base : ℕ) (h : List Keying) (r : Option (List Mi)) (n : Key) → Kept base (keyings.installed r n ∷ h) → transmitting (keyings.installed r n ∷ h) ≡ kept_one (ends (keyings.installed r n) h) (transmitting h)
+transmitting-installed : (base : ℕ) (h : List Keying) (r : Option (List Mi)) (n : Key) → KeepsRules base (keyings.installed r n ∷ h) → transmitting (keyings.installed r n ∷ h) ≡ kept_one (ends (keyings.installed r n) h) (transmitting h)
 unfolding transmitting received
 transmitting-installed base h r n kept = by_option (transmitting h)
     (λ none. absent none ∙ sym (ap (kept_one p) none))
@@ -422,7 +422,7 @@ transmitting-installed base h r n kept = by_option (transmitting h)
     gone t is ended_it = by_option (last_begun h) (λ none. let e = rw none at is in absurd (cc e))
         (λ e some. let o = other e some in rw (some, o) (find-gone e (λ k. not (p k)) (received h) t (epochs-differ base h kept.2) (rw some at is) (ap not ended_it)))
 
-pub goes-installed : (base : ℕ) (h : List Keying) (r : Option (List Mi)) (n : Key) (k : Carried) → Kept base (keyings.installed r n ∷ h) → (base + install_count h) + 1 ≤ most_installs → Carries base h k
+pub goes-installed : (base : ℕ) (h : List Keying) (r : Option (List Mi)) (n : Key) (k : Carried) → KeepsRules base (keyings.installed r n ∷ h) → (base + install_count h) + 1 ≤ most_installs → Carries base h k
     → Goes base (keyings.installed r n ∷ h) (map (λ j. changes.Dropped (held h j)) (filter (ends (keyings.installed r n) h) (received h)) ++ changes.Installed (shown false n) ∷ []) k
 unfolding moved_all
 goes-installed base h r n k kept room carries = (
@@ -445,12 +445,12 @@ goes-installed base h r n k kept room carries = (
     counted : moved_all (changes.Installed (shown false n) ∷ []) (left_of k (transmitting h) p) ≡ Some more
     counted = let few : nat_lt (left base h k p carries).installs most_installs ≡ true = lt-ltb _ _ (let z = left-installs base h k p carries in omega arith) in rw few refl
 
-pub goes-key : (base : ℕ) (h : List Keying) (r : Option (List Mi)) (key : Option Key) (k : Carried) → Kept base (with_key r key h) → base + install_count (with_key r key h) ≤ most_installs → Carries base h k
+pub goes-key : (base : ℕ) (h : List Keying) (r : Option (List Mi)) (key : Option Key) (k : Carried) → KeepsRules base (with_key r key h) → base + install_count (with_key r key h) ≤ most_installs → Carries base h k
     → Goes base (with_key r key h) (install_changes h r key) k
 goes-key base h r None k kept room carries = goes-nowhere base h k carries
 goes-key base h r (Some n) k kept room carries = goes-installed base h r n k kept (omega arith) carries
 
-pub goes-taken : (base : ℕ) (h : List Keying) (o : Option Offer) (answer : Option (Result Key Why)) (k : Carried) → Kept base (with_key None (key_taken answer) h) → base + install_count (with_key None (key_taken answer) h) ≤ most_installs
+pub goes-taken : (base : ℕ) (h : List Keying) (o : Option Offer) (answer : Option (Result Key Why)) (k : Carried) → KeepsRules base (with_key None (key_taken answer) h) → base + install_count (with_key None (key_taken answer) h) ≤ most_installs
     → ((o ≡ None) → answer ≡ None) → Carries base h k → Goes base (with_key None (key_taken answer) h) (take_changes h o answer) k
 unfolding moved_all
 goes-taken base h None None k kept room both carries = goes-nowhere base h k carries

@@ -15,7 +15,7 @@ use Rattle.sak_exchange.specs.declared.held_key.HeldKey.{HeldKey}
 use Rattle.sak_exchange.specs.declared.held_key.Key.{Key}
 use Rattle.sak_exchange.specs.Histories.{Keying}
 use Rattle.sak_exchange.specs.Histories as keyings
-use Rattle.sak_exchange.specs.Held.{Kept, received, latest, held}
+use Rattle.sak_exchange.specs.Held.{KeepsRules, received, latest, held}
 use Rattle.sak_exchange.specs.Beginning.{Beginning}
 use Rattle.sak_exchange.specs.Outcomes.{beginning}
 use Rattle.sak_exchange.proofs.Public.{by_test, keys-installed, latest-stays, same-an-itself}
@@ -52,7 +52,7 @@ use Rattle.group_safety.proofs.moves.Moving.{own-tick, own-reached}
 under-latest : (h : List Keying) (n : Key) → latest h ≡ Some n → held_under h n.an ≡ Some (held h n)
 under-latest h n is = let same : same_an n.an n.an ≡ true = same-an-itself n.an in rw is (rw same refl)
 
-new-latest : (base : ℕ) (h : List Keying) (r : Option (List Mi)) (n : Key) (follow : Option Beginning) → Kept base (with_began follow (with_key r (Some n) h)) → latest (with_began follow (with_key r (Some n) h)) ≡ Some n
+new-latest : (base : ℕ) (h : List Keying) (r : Option (List Mi)) (n : Key) (follow : Option Beginning) → KeepsRules base (with_began follow (with_key r (Some n) h)) → latest (with_began follow (with_key r (Some n) h)) ≡ Some n
 new-latest base h r n None kept = (keys-installed base h r n kept).latest
 new-latest base h r n (Some b) kept = latest-stays base (keyings.began b.key.epoch ∷ []) (keyings.installed r n ∷ h) n kept tt (keys-installed base h r n kept.1).latest
 
@@ -79,13 +79,13 @@ tick-installs s m seen sak p =
     changes-then s (ended v0.keys v1.server) ((beginning v1.keys (led m v1)).changes ++ install_changes v1.keys (roster_at m p) (made m v1 seen sak)) (made m v1 seen sak) (ended-quiet s v0.keys v1.server)
     (changes-then s (beginning v1.keys (led m v1)).changes (install_changes v1.keys (roster_at m p) (made m v1 seen sak)) (made m v1 seen sak) (begin-quiet s v1.keys (led m v1)) (install-is s v1.keys (roster_at m p) (made m v1 seen sak)))
 
-tick-newest : (m : Member) (seen : Seen) (sak : Secret) (p : List Entry) → Kept m.base (keys_of m p) → (n : Key) → made m (view m (lives.ticked ∷ p)) seen sak ≡ Some n → latest (keys_of m (tick_turn m seen sak p).past) ≡ Some n
+tick-newest : (m : Member) (seen : Seen) (sak : Secret) (p : List Entry) → KeepsRules m.base (keys_of m p) → (n : Key) → made m (view m (lives.ticked ∷ p)) seen sak ≡ Some n → latest (keys_of m (tick_turn m seen sak p).past) ≡ Some n
 tick-newest m seen sak p kept n is =
     let whole = tick-keys m seen sak p in
-    let all = subst (Kept m.base) whole (kept-turn m.base (keys_of m p) _ (tick-is_turn m seen sak p) kept) in
+    let all = subst (KeepsRules m.base) whole (kept-turn m.base (keys_of m p) _ (tick-is_turn m seen sak p) kept) in
     ap latest whole ∙ go _ _ is all
   where
-    go : (h : List Keying) (key : Option Key) → key ≡ Some n → Kept m.base (with_key (roster_at m p) key h) → latest (with_key (roster_at m p) key h) ≡ Some n
+    go : (h : List Keying) (key : Option Key) → key ≡ Some n → KeepsRules m.base (with_key (roster_at m p) key h) → latest (with_key (roster_at m p) key h) ≡ Some n
     go h None is kept = absurd (cc is)
     go h (Some k) is kept = let same : k ≡ n = cc is in new-latest m.base h (roster_at m p) k None kept ∙ ap Some same
 
@@ -97,13 +97,13 @@ hear-installs s m a p =
     then-changes s (take_changes v1.keys (offer_at m a p) (answer_at m a p)) (beginning v2.keys (follow_at m a p)).changes (key_taken (answer_at m a p))
     (take-is s v1.keys (offer_at m a p) _) (begin-quiet s v2.keys (follow_at m a p))
 
-hear-newest : (m : Member) (a : Announcement) (p : List Entry) → Kept m.base (keys_of m p) → (n : Key) → key_taken (answer_at m a p) ≡ Some n → latest (keys_of m (hear_turn m a p).past) ≡ Some n
+hear-newest : (m : Member) (a : Announcement) (p : List Entry) → KeepsRules m.base (keys_of m p) → (n : Key) → key_taken (answer_at m a p) ≡ Some n → latest (keys_of m (hear_turn m a p).past) ≡ Some n
 hear-newest m a p kept n is =
     let whole = hear-keys m a p in
-    let all = subst (Kept m.base) whole (kept-turn m.base (keys_of m p) _ (hear-is_turn m a p) kept) in
+    let all = subst (KeepsRules m.base) whole (kept-turn m.base (keys_of m p) _ (hear-is_turn m a p) kept) in
     ap latest whole ∙ go (key_taken (answer_at m a p)) is all
   where
-    go : (key : Option Key) → key ≡ Some n → Kept m.base (with_began (follow_at m a p) (with_key None key (keys_of m p))) → latest (with_began (follow_at m a p) (with_key None key (keys_of m p))) ≡ Some n
+    go : (key : Option Key) → key ≡ Some n → KeepsRules m.base (with_began (follow_at m a p) (with_key None key (keys_of m p))) → latest (with_began (follow_at m a p) (with_key None key (keys_of m p))) ≡ Some n
     go None is kept = absurd (cc is)
     go (Some k) is kept = let same : k ≡ n = cc is in new-latest m.base (keys_of m p) None k (follow_at m a p) kept ∙ ap Some same
 
@@ -130,7 +130,7 @@ shows-by settings x r s l is living held_all i has =
     )
 
 pub installed-held : (settings : Settings) (users : List UserFrame) (x : Happening) (r : Run) → Kind settings users r x.event x.facts
-    → ((s : ℕ) (l : Life) → life settings s r ≡ Some l → Kept l.member.base (keys_in l)) → (i : Install) → In i (gather install_of x.facts []) → Shows settings x r i
+    → ((s : ℕ) (l : Life) → life settings s r ≡ Some l → KeepsRules l.member.base (keys_in l)) → (i : Install) → In i (gather install_of x.facts []) → Shows settings x r i
 installed-held settings users x r (kinds.starts name sci priority mi ev q) kept i has = absurd (subst (λ f. In i (gather install_of f [])) q has)
 installed-held settings users x r (kinds.ticks s next l ev living q) kept i has =
     let seen = seen_at settings s r l next in
@@ -168,7 +168,7 @@ installed-held settings users x r (kinds.emits w ev waits is) kept i has =
 
 -- by the fact itself
 pub fact-held : (settings : Settings) (users : List UserFrame) (x : Happening) (r : Run) → Kind settings users r x.event x.facts
-    → ((s : ℕ) (l : Life) → life settings s r ≡ Some l → Kept l.member.base (keys_in l))
+    → ((s : ℕ) (l : Life) → life settings s r ≡ Some l → KeepsRules l.member.base (keys_in l))
     → (s : ℕ) (id : KeyId) (an : AssociationNumber) (epoch : ℕ) (sak : Secret) → In (facts.Installed s id an epoch sak) x.facts
     → (h : HeldKey) × (held_at settings s (x ∷ r) an ≡ Some h) × (h.key.epoch ≡ epoch) × (h.key.sak ≡ sak)
 fact-held settings users x r kind kept s id an epoch sak has =

@@ -4,7 +4,7 @@ use Rattle.std.proofs.Common.{arith}
 use Rattle.std.specs.Prelude.{slice_get}
 use Rattle.lan_base.specs.declared.frame.UserFrame.{UserFrame}
 use Rattle.rx_slots.specs.Histories.{Receiving}
-use Rattle.sak_exchange.specs.Held.{Kept}
+use Rattle.sak_exchange.specs.Held.{KeepsRules}
 use Rattle.lan_core.specs.declared.settings.Settings.{Settings}
 use Rattle.lan_core.specs.Run.{Run, Happening, Profile, stations}
 use Rattle.lan_core.specs.Ledgers.{installs_at}
@@ -51,7 +51,7 @@ known-by settings users old new x r s before after = record {
     then : (l : Life) → life settings s (x ∷ r) ≡ Some l → IsSat settings (receiving s (x ∷ r)) (length (installs_at s (x ∷ r))) (slice_get (stations (x ∷ r)) s) l
     then l e = sat settings _ _ _ _ _ l (after.seats s) e
 
-pub kept-by : (settings : Settings) (users : List UserFrame) (old : State) (r : Run) → StandsFor settings users old r → (s : ℕ) (l : Life) → life settings s r ≡ Some l → Kept l.member.base (keys_in l)
+pub kept-by : (settings : Settings) (users : List UserFrame) (old : State) (r : Run) → StandsFor settings users old r → (s : ℕ) (l : Life) → life settings s r ≡ Some l → KeepsRules l.member.base (keys_in l)
 kept-by settings users old r before s l e = (sat settings _ _ _ _ _ l (before.seats s) e).sits.station.keys.kept
 
 pub none-by : (settings : Settings) (users : List UserFrame) (old : State) (r : Run) → StandsFor settings users old r → (s : ℕ) → life settings s r ≡ None → length (installs_at s r) ≡ 0

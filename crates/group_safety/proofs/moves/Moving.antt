@@ -12,7 +12,7 @@ use Rattle.sak_exchange.specs.declared.change.Change.{Change}
 use Rattle.sak_exchange.specs.declared.change.Change.TheVariants as changes
 use Rattle.sak_exchange.specs.declared.held_key.Key.{Key}
 use Rattle.sak_exchange.specs.Histories.{install_count}
-use Rattle.sak_exchange.specs.Held.{Kept, received, held, transmitting}
+use Rattle.sak_exchange.specs.Held.{KeepsRules, received, held, transmitting}
 use Rattle.sak_exchange.proofs.Public.{by_test, by_option, begun-upto}
 use Rattle.mka_station.specs.declared.reaction.Reaction.{Reaction}
 use Rattle.mka_station.specs.declared.verdict.Verdict.{Verdict}
@@ -120,7 +120,7 @@ carries-new l k none count absent low = subst (λ h. Carries l.member.base h k) 
   last = inl low;
 })
 
-end-goes : (m : Member) (p : List Entry) (k : Carried) → Kept m.base (keys_of m p) → Carries m.base (keys_of m p) k
+end-goes : (m : Member) (p : List Entry) (k : Carried) → KeepsRules m.base (keys_of m p) → Carries m.base (keys_of m p) k
     → (j : Carried) × (moved_all (ending m p).changes k ≡ Some j) × (j.installs ≡ m.base + install_count (keys_of m p)) × ((now j).present ≡ false) × ((now j).epoch ≤ m.base + install_count (keys_of m p))
 unfolding ending
 end-goes m p k kept carries =
@@ -187,7 +187,7 @@ low_at_first n k blank = let e : (now k).epoch ≡ 0 = ap (λ (c : Carried). (no
 
 -- what is known of a station before an event, and of its keys after it
 pub record IsKnown (settings : Settings) (t : ℕ) (x : Happening) (r : Run) : Type 0 where
-  pub kept : (l : Life) → life settings t r ≡ Some l → Kept l.member.base (keys_in l)
+  pub kept : (l : Life) → life settings t r ≡ Some l → KeepsRules l.member.base (keys_in l)
   pub counts : (l : Life) → life settings t r ≡ Some l → l.member.base + install_count (keys_in l) ≡ length (installs_at t r)
   pub none : life settings t r ≡ None → length (installs_at t r) ≡ 0
   pub there : (l : Life) → life settings t r ≡ Some l → t < length (stations r)

@@ -10,7 +10,7 @@ use Rattle.sak_exchange.specs.declared.offer.Offer.{Offer}
 use Rattle.sak_exchange.specs.declared.held_key.Key.{Key}
 use Rattle.sak_exchange.specs.Histories.{Keying, install_count, has_begun}
 use Rattle.sak_exchange.specs.Histories as keyings
-use Rattle.sak_exchange.specs.Held.{Kept, latest, may_begin}
+use Rattle.sak_exchange.specs.Held.{KeepsRules, latest, may_begin}
 use Rattle.sak_exchange.specs.Beginning.{Beginning}
 use Rattle.sak_exchange.specs.Outcomes.{beginning}
 use Rattle.mka_station.specs.declared.verdict.DropReason.{DropReason}
@@ -33,13 +33,13 @@ use Rattle.group_safety.proofs.moves.Carrying.{goes-begun, goes-key, goes-taken}
 use Rattle.group_safety.proofs.rollover.Leads.{kept-of-began}
 
 -- the key of a beginning may begin, where the latest key has not begun
-begins-by : (base : ℕ) (h : List Keying) (b : Beginning) → Kept base h → latest h ≡ Some b.key → has_begun h b.key.epoch ≡ false
+begins-by : (base : ℕ) (h : List Keying) (b : Beginning) → KeepsRules base h → latest h ≡ Some b.key → has_begun h b.key.epoch ≡ false
     → (may_begin h b.key.epoch ≡ true) × (latest h ≡ Some b.key)
 begins-by base h b kept is unbegun = (may h b.key is unbegun, is)
 
 -- ---- a tick
 
-key-stage : (base : ℕ) (h1 : List Keying) (lead : Option Beginning) (r : Option (List Mi)) (key : Option Key) (k : Carried) → Kept base (with_key r key (with_began lead h1))
+key-stage : (base : ℕ) (h1 : List Keying) (lead : Option Beginning) (r : Option (List Mi)) (key : Option Key) (k : Carried) → KeepsRules base (with_key r key (with_began lead h1))
     → base + install_count (with_key r key (with_began lead h1)) ≤ most_installs → ((n : Key) → key ≡ Some n → lead ≡ None) → Carries base (with_began lead h1) k
     → Goes base (with_key r key (with_began lead h1)) (install_changes h1 r key) k
 key-stage base h1 lead r None k kept room alone carries = goes-nowhere base (with_began lead h1) k carries
@@ -47,7 +47,7 @@ key-stage base h1 None r (Some n) k kept room alone carries = goes-key base h1 r
 key-stage base h1 (Some b) r (Some n) k kept room alone carries = let e = alone n refl in absurd (cc e)
 
 tick-stages : (base : ℕ) (h v0 v1 : List Keying) (server : Option Mi) (lead : Option Beginning) (r : Option (List Mi)) (key : Option Key) (k : Carried)
-    → v0 ≡ h → v1 ≡ keyings.ticked (is_some server) ∷ h → Kept base h → Kept base (with_key r key (with_began lead (keyings.ticked (is_some server) ∷ h)))
+    → v0 ≡ h → v1 ≡ keyings.ticked (is_some server) ∷ h → KeepsRules base h → KeepsRules base (with_key r key (with_began lead (keyings.ticked (is_some server) ∷ h)))
     → base + install_count (with_key r key (with_began lead (keyings.ticked (is_some server) ∷ h))) ≤ most_installs
     → ((b : Beginning) → lead ≡ Some b → (latest v1 ≡ Some b.key) × (has_begun v1 b.key.epoch ≡ false))
     → ((n : Key) → key ≡ Some n → lead ≡ None) → Carries base h k
@@ -63,7 +63,7 @@ tick-stages base h v0 v1 server lead r key k at0 at1 kept kept_all room leads al
     (λ i ci. subst (λ v. Goes base (with_key r key (with_began lead h1)) (install_changes v r key) i) (sym at1)
     (key-stage base h1 lead r key i kept_all room alone ci)))
 
-pub tick-goes : (m : Member) (seen : Seen) (sak : Secret) (p : List Entry) (k : Carried) → Kept m.base (keys_of m p)
+pub tick-goes : (m : Member) (seen : Seen) (sak : Secret) (p : List Entry) (k : Carried) → KeepsRules m.base (keys_of m p)
     → m.base + install_count (keys_of m (tick_turn m seen sak p).past) ≤ most_installs → Carries m.base (keys_of m p) k
     → Goes m.base (keys_of m (tick_turn m seen sak p).past) (tick_turn m seen sak p).reaction.changes k
 unfolding tick_turn
@@ -81,7 +81,7 @@ tick-goes m seen sak p k kept room carries =
     let kept_all = kept-turn m.base h _ (tick-is_turn m seen sak p) kept in
     subst (λ g. Goes m.base g (ended_by v0.keys v1.server ++ ((beginning v1.keys lead).changes ++ install_changes v1.keys r key)) k) (sym whole)
     (tick-stages m.base h v0.keys v1.keys v1.server lead r key k (view-keys m p) now kept
-    (subst (Kept m.base) whole kept_all)
+    (subst (KeepsRules m.base) whole kept_all)
     (subst (λ g. m.base + install_count g ≤ most_installs) whole room)
     (λ b is. let l = led-is m v1 b is in (l.latest_key, l.unbegun))
     (λ n is. (making-is m v1 seen sak n is).none_led) carries)
@@ -92,7 +92,7 @@ none-offered : (m : Member) (v : View) (o : Option Offer) → o ≡ None → tak
 none-offered m v o none = rw none refl
 
 hear-stages : (base : ℕ) (h v1 v2 : List Keying) (offer : Option Offer) (answer : Option (Result Key Why)) (follow : Option Beginning) (k : Carried)
-    → v1 ≡ h → v2 ≡ with_key None (key_taken answer) h → Kept base (with_began follow (with_key None (key_taken answer) h))
+    → v1 ≡ h → v2 ≡ with_key None (key_taken answer) h → KeepsRules base (with_began follow (with_key None (key_taken answer) h))
     → base + install_count (with_began follow (with_key None (key_taken answer) h)) ≤ most_installs
     → ((b : Beginning) → follow ≡ Some b → (latest v2 ≡ Some b.key) × (has_begun v2 b.key.epoch ≡ false))
     → ((offer ≡ None) → answer ≡ None) → Carries base h k
@@ -107,7 +107,7 @@ hear-stages base h v1 v2 offer answer follow k at1 at2 kept room follows both ca
     (goes-begun base h1 follow j kept1
     (λ b is. let l = follows b is in begins-by base h1 b kept1 (subst (λ v. latest v ≡ Some b.key) at2 l.0) (subst (λ v. has_begun v b.key.epoch ≡ false) at2 l.1)) cj))
 
-pub hear-goes : (m : Member) (a : Announcement) (p : List Entry) (k : Carried) → Kept m.base (keys_of m p)
+pub hear-goes : (m : Member) (a : Announcement) (p : List Entry) (k : Carried) → KeepsRules m.base (keys_of m p)
     → m.base + install_count (keys_of m (hear_turn m a p).past) ≤ most_installs → Carries m.base (keys_of m p) k
     → Goes m.base (keys_of m (hear_turn m a p).past) (hear_turn m a p).reaction.changes k
 unfolding hear_turn
@@ -126,12 +126,12 @@ hear-goes m a p k kept room carries =
     let kept_all = kept-turn m.base h _ (hear-is_turn m a p) kept in
     subst (λ g. Goes m.base g (take_changes v1.keys offer answer ++ (beginning v2.keys follow).changes) k) (sym whole)
     (hear-stages m.base h v1.keys v2.keys offer answer follow k now then
-    (subst (Kept m.base) whole kept_all)
+    (subst (KeepsRules m.base) whole kept_all)
     (subst (λ g. m.base + install_count g ≤ most_installs) whole room)
     (λ b is. let f = following-is v2 _ a b is in (f.latest_key, f.unbegun))
     (λ none. none-offered m v1 offer none) carries)
 
-pub frame-goes : (m : Member) (octets : List ℕ) (p : List Entry) (k : Carried) → Kept m.base (keys_of m p)
+pub frame-goes : (m : Member) (octets : List ℕ) (p : List Entry) (k : Carried) → KeepsRules m.base (keys_of m p)
     → m.base + install_count (keys_of m (frame_turn m octets p).past) ≤ most_installs → Carries m.base (keys_of m p) k
     → Goes m.base (keys_of m (frame_turn m octets p).past) (frame_turn m octets p).reaction.changes k
 frame-goes m octets p k kept room carries = by (judged m.setup octets) room

@@ -21,7 +21,7 @@ use Rattle.group_safety.proofs.Members.{In}
 use Rattle.group_safety.proofs.once.Histories.{handed, deeds_of, with_key, with_began, past_heard}
 use Rattle.group_safety.proofs.once.Histories.{keys-begun, keys-installed, keys-heard, view-keys}
 use Rattle.group_safety.proofs.once.KeysSound.{AreSound, sound-taken, new-key}
-use Rattle.group_safety.proofs.once.Rules.{IsTaken, key_heard, taken-is, taken-handed, said_by}
+use Rattle.group_safety.proofs.once.Rules.{IsKeyOfAnnouncement, key_heard, taken-is, taken-handed, said_by}
 use Rattle.group_safety.proofs.once.Rules.{named}
 use Rattle.group_safety.proofs.once.Ciphers.{unwrapped-secret}
 use Rattle.group_safety.proofs.once.Frames.{IsRanged}
@@ -61,13 +61,13 @@ abbrev pub IsSmallGift : Announcement → Type 0
 IsSmallGift a = (g : Given) → a.given ≡ Some g → g.number < 2 ^ 32
 
 hear-taken : (m : Member) (a : Announcement) (p : List Entry) (k : Key) → key_heard m a p ≡ Some k
-    → IsTaken m (keys_of m p) a k
+    → IsKeyOfAnnouncement m (keys_of m p) a k
 hear-taken m a p k e =
-    subst (λ h. IsTaken m h a k) (view-keys m (heard a ∷ p) ∙ keys-heard m a p) (taken-is m a p k e)
+    subst (λ h. IsKeyOfAnnouncement m h a k) (view-keys m (heard a ∷ p) ∙ keys-heard m a p) (taken-is m a p k e)
 
 taken-sound : (m : Member) (a : Announcement) (p : List Entry) (most : ℕ) (k : Key)
     → AreSound m.base m.mi most (keys_of m p) → IsRanged a → IsSmallGift a
-    → IsTaken m (keys_of m p) a k
+    → IsKeyOfAnnouncement m (keys_of m p) a k
     → AreSound m.base m.mi most (installed None k ∷ keys_of m p)
 taken-sound m a p most k sound ranged small t =
     sound-taken m.base m.mi most k (keys_of m p) sound

@@ -243,7 +243,7 @@ abbrev pub named : List Peer → List Mi
 named ps = map (λ q. q.mi) ps
 
 -- what is known of a key that is taken
-pub record IsTaken (m : Member) (h : List Keying) (a : Announcement) (k : Key) : Type 0 where
+pub record IsKeyOfAnnouncement (m : Member) (h : List Keying) (a : Announcement) (k : Key) : Type 0 where
   pub gift : Given
   pub gives : a.given ≡ Some gift
   pub listed : In m.mi (named a.live)
@@ -265,7 +265,7 @@ listed-in m h a e =
 
 offer-taken : (m : Member) (v : View) (a : Announcement) (k : Key) (o : Outcome)
     → (is_accepted o ≡ true → same_mi a.mi m.mi ≡ false)
-    → key_taken (taken_of m v (offered m v o a)) ≡ Some k → IsTaken m v.keys a k
+    → key_taken (taken_of m v (offered m v o a)) ≡ Some k → IsKeyOfAnnouncement m v.keys a k
 offer-taken m v a k o others e =
     let t = taking-is m v o a k e in
     record {
@@ -288,7 +288,7 @@ key_heard m a p =
     key_taken (taken_of m v (offered m v (outcome_of m p a) a))
 
 pub taken-is : (m : Member) (a : Announcement) (p : List Entry) (k : Key) → key_heard m a p ≡ Some k
-    → IsTaken m (view m (heard a ∷ p)).keys a k
+    → IsKeyOfAnnouncement m (view m (heard a ∷ p)).keys a k
 taken-is m a p k e =
     let h = peers_of m p in
     offer-taken m (view m (heard a ∷ p)) a k (outcome_of m p a)
@@ -313,7 +313,7 @@ said_by kek a =
     record { mi = a.mi; live = named a.live; given = option_and_then (handed_by kek a.mi) a.given }
 
 -- what a taken key is to the ledgers is what its announcement hands out
-pub taken-handed : (m : Member) (h : List Keying) (a : Announcement) (k : Key) → IsTaken m h a k
+pub taken-handed : (m : Member) (h : List Keying) (a : Announcement) (k : Key) → IsKeyOfAnnouncement m h a k
     → (said_by m.setup.kek a).given ≡ Some (handed k)
 taken-handed m h a k t =
     ap (option_and_then (handed_by m.setup.kek a.mi)) t.gives

@@ -5,7 +5,7 @@ use Rattle.std.proofs.lemmas.Bool.{cases_lt}
 use Rattle.lan_base.specs.Timers.{retire_time}
 use Rattle.sak_exchange.specs.declared.held_key.Key.{Key}
 use Rattle.sak_exchange.specs.Histories.{ticked, clock, installs, begun_at, has_begun}
-use Rattle.sak_exchange.specs.Held.{Kept, received, latest, old, allows}
+use Rattle.sak_exchange.specs.Held.{KeepsRules, received, latest, old, allows}
 use Rattle.sak_exchange.specs.Lives.{Has, IsFresh}
 use Rattle.sak_exchange.proofs.Public.{old-stays, latest-stays, unbegun-fresh, begun-stays}
 use Rattle.sak_exchange.proofs.Public.{was-received}
@@ -76,7 +76,7 @@ module _ (c : Course) (o : Rollover) (is : IsCourse c) (R : IsRollover c o) wher
       let longer : now ≡ (ticked true ∷ g.new) ++ h = ap (λ t. ticked true ∷ t) g.whole in
       let kept = is.kept o.server n (omega arith) in
       let base : ℕ = kept.0 in
-      let kept2 = subst (Kept base) longer kept.1 in
+      let kept2 = subst (KeepsRules base) longer kept.1 in
       let begun = begun-at-stays base (ticked true ∷ g.new) h R.new_key.epoch
       (clock h) kept2 R.begun in
       let s = R.life.step n (omega arith) high in
@@ -121,7 +121,7 @@ module _ (c : Course) (o : Rollover) (is : IsCourse c) (R : IsRollover c o) wher
       let h = c.keys o.server (suc o.start) in
       let known = is.kept o.server d high in
       let base : ℕ = known.0 in
-      let kept = subst (Kept base) g.whole known.1 in
+      let kept = subst (KeepsRules base) g.whole known.1 in
       let begun = begun-at-stays base g.new h R.new_key.epoch (clock h) kept R.begun in
       let now_clock = ap clock g.whole in
       let fresh : IsFresh (clock (g.new ++ h)) (begun_at (g.new ++ h) R.new_key.epoch) =
@@ -143,7 +143,7 @@ module _ (c : Course) (o : Rollover) (is : IsCourse c) (R : IsRollover c o) wher
       let g = grown c o.server (suc o.start) d low high
       (lives-later c o.server (suc o.made) (suc o.start) (omega arith) R.life) in
       let known = is.kept o.server d high in
-      let kept = subst (Kept known.0) g.whole known.1 in
+      let kept = subst (KeepsRules known.0) g.whole known.1 in
       let begun = begun-at-stays known.0 g.new (c.keys o.server (suc o.start)) R.new_key.epoch
       (clock (c.keys o.server (suc o.start))) kept R.begun in
       let r = server-recent d low high (clock (c.keys o.server (suc o.start)))
@@ -174,7 +174,7 @@ module _ (c : Course) (o : Rollover) (is : IsCourse c) (R : IsRollover c o) wher
       let g = grown-quietly c o.server (suc o.made) d low rests in
       let known = is.kept o.server d high in
       let newest = latest-stays known.0 g.new (c.keys o.server (suc o.made)) R.new_key
-      (subst (Kept known.0) g.whole known.1) g.quiet R.made in
+      (subst (KeepsRules known.0) g.whole known.1) g.quiet R.made in
       record {
         key = R.new_key;
         received_here = latest-received known.0 (c.keys o.server d) R.new_key known.1
@@ -197,7 +197,7 @@ module _ (c : Course) (o : Rollover) (is : IsCourse c) (R : IsRollover c o) wher
       let g = grown-quietly c t sent d low (listener-rests t sent d L high rests) in
       let known = is.kept t d high in
       let newest = latest-stays known.0 g.new (c.keys t sent) L.new_key
-      (subst (Kept known.0) g.whole known.1) g.quiet L.new_is in
+      (subst (KeepsRules known.0) g.whole known.1) g.quiet L.new_is in
       record {
         key = L.new_key;
         received_here = latest-received known.0 (c.keys t d) L.new_key known.1
@@ -249,7 +249,7 @@ module _ (c : Course) (o : Rollover) (is : IsCourse c) (R : IsRollover c o) wher
       let h = c.keys t sent in
       let known = is.kept t d high in
       let base : ℕ = known.0 in
-      let kept = subst (Kept base) g.whole known.1 in
+      let kept = subst (KeepsRules base) g.whole known.1 in
       let fresh = subst (λ v. IsFresh (clock v) (begun_at v L.new_key.epoch)) g.whole
       (listener-fresh t sent d L low high idle soon) in
       let held = old-stays base g.new h L.new_key K.old_key kept g.quiet L.new_is K.old_is fresh in

@@ -5,7 +5,7 @@ use Rattle.lan_base.specs.declared.key_id.KeyId.{KeyId}
 use Rattle.lan_base.specs.Timers.{retire_time}
 use Rattle.sak_exchange.specs.declared.held_key.Key.{Key}
 use Rattle.sak_exchange.specs.Histories.{Keying, ticked, clock, installs, begun_at, has_begun}
-use Rattle.sak_exchange.specs.Held.{Kept, received, latest, old, transmitting, allows}
+use Rattle.sak_exchange.specs.Held.{KeepsRules, received, latest, old, transmitting, allows}
 use Rattle.sak_exchange.specs.Lives.{Has, IsQuiet}
 use Rattle.group_safety.specs.Steady.{Rollover}
 
@@ -23,7 +23,7 @@ pub record Course : Type 0 where
 
 -- what holds at each station
 pub record IsCourse (c : Course) : Type 0 where
-  pub kept : (u n : ℕ) → n ≤ c.end → (base : ℕ) × Kept base (c.keys u n)
+  pub kept : (u n : ℕ) → n ≤ c.end → (base : ℕ) × KeepsRules base (c.keys u n)
   pub rise : (n : ℕ) → n < c.end → c.rounds n ≤ c.rounds (suc n)
   pub one_install : (u n : ℕ) (j k : Key) → n ≤ c.end → Has j (installs (c.keys u n))
       → Has k (installs (c.keys u n)) → j.id ≡ k.id → j ≡ k

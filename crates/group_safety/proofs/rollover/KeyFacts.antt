@@ -9,7 +9,7 @@ use Rattle.lan_base.specs.Falling.{IsAbove, IsFalling}
 use Rattle.sak_exchange.specs.declared.held_key.Key.{Key}
 use Rattle.sak_exchange.specs.Histories.{Keying, ticked, installed, began, installs}
 use Rattle.sak_exchange.specs.Histories.{begun_at, has_begun, beginnings, last_begun}
-use Rattle.sak_exchange.specs.Held.{Kept, received, latest, old, transmitting, allows, has_epoch}
+use Rattle.sak_exchange.specs.Held.{KeepsRules, received, latest, old, transmitting, allows, has_epoch}
 use Rattle.sak_exchange.specs.Lives.{Has, Installs}
 use Rattle.sak_exchange.proofs.Public.{by_test, by_option, may-begin, find-passes, first-is}
 use Rattle.sak_exchange.proofs.Public.{are-two, beside-old, is-received, beginnings-fall}
@@ -41,19 +41,19 @@ received-installed h k has =
     subst (λ t. Has k (installs t)) (sym r.whole)
     (installed-on k r.since (r.install ∷ r.before) (installs-this r.install r.before k r.installs))
 
-pub latest-received : (base : ℕ) (h : List Keying) (l : Key) → Kept base h → latest h ≡ Some l
+pub latest-received : (base : ℕ) (h : List Keying) (l : Key) → KeepsRules base h → latest h ≡ Some l
     → Has l (received h)
 latest-received base h l kept is =
     let first = first-is base h l kept is in
     subst (λ t. Has l t) (sym first.received) (inl refl)
 
-pub old-received : (base : ℕ) (h : List Keying) (o : Key) → Kept base h → old h ≡ Some o
+pub old-received : (base : ℕ) (h : List Keying) (o : Key) → KeepsRules base h → old h ≡ Some o
     → Has o (received h)
 old-received base h o kept is =
     let two = beside-old base h o kept is in
     subst (λ t. Has o t) (sym two.1.received) (inr (inl refl))
 
-pub old-is-older : (base : ℕ) (h : List Keying) (l o : Key) → Kept base h → latest h ≡ Some l
+pub old-is-older : (base : ℕ) (h : List Keying) (l o : Key) → KeepsRules base h → latest h ≡ Some l
     → old h ≡ Some o → o.epoch < l.epoch
 old-is-older base h l o kept first second = (are-two base h l o kept first second).beside.less
 
@@ -63,7 +63,7 @@ pub full : (h : List Keying) (l o : Key) → latest h ≡ Some l → old h ≡ S
 full h l o first second begun = rw (first, second, begun) refl
 
 -- the clock of a beginning stays
-pub begun-at-stays : (base : ℕ) (new h : List Keying) (e at : ℕ) → Kept base (new ++ h)
+pub begun-at-stays : (base : ℕ) (new h : List Keying) (e at : ℕ) → KeepsRules base (new ++ h)
     → begun_at h e ≡ Some at → begun_at (new ++ h) e ≡ Some at
 begun-at-stays base [] h e at kept is = is
 begun-at-stays base (ticked s ∷ new) h e at kept is = begun-at-stays base new h e at kept is
@@ -122,7 +122,7 @@ pub transmitting-received : (h : List Keying) (k : Key) → transmitting h ≡ S
 transmitting-received h k is = (transmitting-last h k is).1
 
 -- nothing that began is later than what transmits
-pub transmits-later : (base : ℕ) (h : List Keying) (k : Key) (e : ℕ) → Kept base h
+pub transmits-later : (base : ℕ) (h : List Keying) (k : Key) (e : ℕ) → KeepsRules base h
     → has_begun h e ≡ true → transmitting h ≡ Some k → e ≤ k.epoch
 transmits-later base h k e kept begun is =
     last-is-greatest h e k.epoch (beginnings-fall base h kept) begun (transmitting-last h k is).0

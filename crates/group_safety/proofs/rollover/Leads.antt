@@ -10,7 +10,7 @@ use Rattle.mkpdu_codec.specs.declared.announcement.Announcement.{Announcement}
 use Rattle.sak_exchange.specs.declared.held_key.Key.{Key}
 use Rattle.sak_exchange.specs.Histories.{Keying, ticked, installed, began, installs, has_begun}
 use Rattle.sak_exchange.specs.Histories.{last_begun, install_count}
-use Rattle.sak_exchange.specs.Held.{Kept, latest, transmitting}
+use Rattle.sak_exchange.specs.Held.{KeepsRules, latest, transmitting}
 use Rattle.sak_exchange.specs.Beginning.{Beginning}
 use Rattle.sak_exchange.specs.Lives.{Has}
 use Rattle.sak_exchange.proofs.Public.{by_test, begun-upto}
@@ -53,7 +53,7 @@ use Rattle.std.specs.Prelude.{Ok}
 
 -- ---- epochs of installs
 
-pub installed-upto : (base : ℕ) (h : List Keying) (k : Key) → Kept base h → Has k (installs h)
+pub installed-upto : (base : ℕ) (h : List Keying) (k : Key) → KeepsRules base h → Has k (installs h)
     → k.epoch ≤ base + install_count h
 installed-upto base [] k kept has = absurd has
 installed-upto base (ticked s ∷ h) k kept has = installed-upto base h k kept has
@@ -63,7 +63,7 @@ installed-upto base (installed r n ∷ h) k kept (inr has) = let before =
     installed-upto base h k kept.2 has in omega arith
 installed-upto base (began e ∷ h) k kept has = installed-upto base h k kept.1 has
 
-pub one-epoch : (base : ℕ) (h : List Keying) (j k : Key) → Kept base h → Has j (installs h)
+pub one-epoch : (base : ℕ) (h : List Keying) (j k : Key) → KeepsRules base h → Has j (installs h)
     → Has k (installs h) → j.epoch ≡ k.epoch → j ≡ k
 one-epoch base [] j k kept hj hk e = absurd hj
 one-epoch base (ticked s ∷ h) j k kept hj hk e = one-epoch base h j k kept hj hk e
@@ -92,7 +92,7 @@ abbrev pub BegunIn : List Keying → Option Beginning → Option Beginning → K
 BegunIn h lead follow k = (Has k (installs h) × (has_begun h k.epoch ≡ true)) ⊎
     ((b : Beginning) × ((lead ≡ Some b) ⊎ (follow ≡ Some b)) × (b.key.id ≡ k.id))
 
-begun-more : (base : ℕ) (h : List Keying) (b : Option Beginning) (k : Key) → Kept base h
+begun-more : (base : ℕ) (h : List Keying) (b : Option Beginning) (k : Key) → KeepsRules base h
     → ((c : Beginning) → b ≡ Some c → latest h ≡ Some c.key)
     → Has k (installs (with_began b h)) → has_begun (with_began b h) k.epoch ≡ true
     → (Has k (installs h) × (has_begun h k.epoch ≡ true)) ⊎
@@ -106,7 +106,7 @@ begun-more base h (Some b) k kept newest has begun =
     inr (b, refl, ap (λ (w : Key). w.id) same))
     (λ t. inl (has, rw t at begun))
 
-key-more : (base : ℕ) (h : List Keying) (r : _) (key : Option Key) (k : Key) → Kept base h
+key-more : (base : ℕ) (h : List Keying) (r : _) (key : Option Key) (k : Key) → KeepsRules base h
     → ((j : Key) → key ≡ Some j → j.epoch ≡ (base + install_count h) + 1)
     → Has k (installs (with_key r key h)) → has_begun (with_key r key h) k.epoch ≡ true
     → Has k (installs h) × (has_begun h k.epoch ≡ true)
@@ -121,24 +121,24 @@ tick-more : (t : Option Bool) (h : List Keying) (k : Key) → Has k (installs (w
 tick-more None h k has begun = (has, begun)
 tick-more (Some s) h k has begun = (has, begun)
 
-pub kept-of-began : (base : ℕ) (b : Option Beginning) (h : List Keying) → Kept base (with_began b h)
-    → Kept base h
+pub kept-of-began : (base : ℕ) (b : Option Beginning) (h : List Keying) → KeepsRules base (with_began b h)
+    → KeepsRules base h
 kept-of-began base None h kept = kept
 kept-of-began base (Some b) h kept = kept.1
 
-kept-of-key : (base : ℕ) (r : _) (k : Option Key) (h : List Keying) → Kept base (with_key r k h)
-    → Kept base h
+kept-of-key : (base : ℕ) (r : _) (k : Option Key) (h : List Keying) → KeepsRules base (with_key r k h)
+    → KeepsRules base h
 kept-of-key base r None h kept = kept
 kept-of-key base r (Some k) h kept = kept.2
 
-pub begun-in : (base : ℕ) (h g : List Keying) (t : IsTurn base h g) (k : Key) → Kept base g
+pub begun-in : (base : ℕ) (h g : List Keying) (t : IsTurn base h g) (k : Key) → KeepsRules base g
     → Has k (installs g) → has_begun g k.epoch ≡ true
     → BegunIn h t.lead t.follow k
 begun-in base h g t k kept has begun =
     let h1 = with_tick t.tick h in
     let h2 = with_began t.lead h1 in
     let h3 = with_key t.roster t.key h2 in
-    let kg = subst (Kept base) t.whole kept in
+    let kg = subst (KeepsRules base) t.whole kept in
     let k3 = kept-of-began base t.follow h3 kg in
     let k2 = kept-of-key base t.roster t.key h2 k3 in
     let k1 = kept-of-began base t.lead h1 k2 in
@@ -260,9 +260,9 @@ module _ (settings : Settings) (users : List UserFrame) (run : Run) (is : IsSett
 
   kept-before : (u n : ℕ) (l : Life) → life settings u (upto n run) ≡ Some l
       → keys_at settings u (upto n run) ≡ keys_in l → n < length run
-      → Kept l.member.base (keys_at settings u (upto n run))
+      → KeepsRules l.member.base (keys_at settings u (upto n run))
   kept-before u n l living before high =
-      subst (Kept l.member.base) (sym before)
+      subst (KeepsRules l.member.base) (sym before)
       (life-kept settings users run is stepped unforged fresh n (omega arith) u l living)
 
   led-on : (n : ℕ) → n < length run → ((w : ℕ) → w ≤ n → IsLed w) → IsLed (suc n)

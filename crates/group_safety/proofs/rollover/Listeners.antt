@@ -14,7 +14,7 @@ use Rattle.sak_exchange.specs.declared.report.Report.{Report}
 use Rattle.sak_exchange.specs.declared.held_key.Key.{Key}
 use Rattle.sak_exchange.specs.Histories.{Keying, ticked, installed, began, installs}
 use Rattle.sak_exchange.specs.Histories.{has_begun}
-use Rattle.sak_exchange.specs.Held.{Kept, latest, old}
+use Rattle.sak_exchange.specs.Held.{KeepsRules, latest, old}
 use Rattle.sak_exchange.specs.Beginning.{Beginning}
 use Rattle.sak_exchange.specs.Reports.{reports_latest, reports_old}
 use Rattle.sak_exchange.specs.Taking.{greatest_of}
@@ -104,13 +104,13 @@ began-now e h = let t = eq-eqb e e refl in rw t refl
 
 -- what a hearing leaves in which a key begins
 following-turn : (m : Member) (a : Announcement) (p : List Entry) (h g : List Keying)
-    (b : Beginning) → IsHearTurn m a p h g → Kept m.base g → follow_at m a p ≡ Some b
+    (b : Beginning) → IsHearTurn m a p h g → KeepsRules m.base g → follow_at m a p ≡ Some b
     → Has b.key (installs g) × (has_begun g b.key.epoch ≡ true)
 following-turn m a p h g b t kept is =
     let h3 = with_key t.turn.roster t.turn.key (with_began t.turn.lead (with_tick t.turn.tick h)) in
     let follow = t.follow_is ∙ is in
     let whole : g ≡ began b.key.epoch ∷ h3 = t.turn.whole ∙ ap (λ o. with_began o h3) follow in
-    let kept3 = (subst (Kept m.base) whole kept).1 in
+    let kept3 = (subst (KeepsRules m.base) whole kept).1 in
     let has = received-installed h3 b.key
     (latest-received m.base h3 b.key kept3 (t.turn.follow_latest b follow)) in (
       subst (λ w. Has b.key (installs w)) (sym whole) has,
@@ -182,7 +182,7 @@ module _ (settings : Settings) (users : List UserFrame) (run : Run) (is : IsSett
             let before = keys-of-life settings t (upto x run) l living in
             let turn = hear-turn-at settings users run is stepped unforged fresh from paced t x
             B.event l a B.at before (keys-of-life settings t (B.event ∷ upto x run) _ after) in
-            let first = subst (Kept l.member.base) (sym before)
+            let first = subst (KeepsRules l.member.base) (sym before)
             (life-kept settings users run is stepped unforged fresh x (omega arith) t l living)
             in
             let kept = kept-turn l.member.base (keys_at settings t (upto x run))
@@ -378,7 +378,7 @@ module _ (settings : Settings) (users : List UserFrame) (run : Run) (is : IsSett
         puts in
         let before = quiet-installs r.new h j r.quiet
         (subst (λ w. Has j (installs w)) r.whole there) in
-        let first = subst (Kept base) (sym
+        let first = subst (KeepsRules base) (sym
         (keys-of-life settings o.server (upto z run) m.life_then m.living))
         (life-kept settings users run is stepped unforged fresh z
         (omega arith) o.server m.life_then m.living) in

@@ -10,7 +10,7 @@ use Rattle.mkpdu_codec.specs.declared.announcement.Announcement.{Announcement}
 use Rattle.sak_exchange.specs.declared.held_key.Key.{Key}
 use Rattle.sak_exchange.specs.Histories.{Keying, installs, begun_at}
 use Rattle.sak_exchange.specs.Histories as keyings
-use Rattle.sak_exchange.specs.Held.{Kept}
+use Rattle.sak_exchange.specs.Held.{KeepsRules}
 use Rattle.sak_exchange.specs.Lives.{Has, identifiers}
 use Rattle.sak_exchange.proofs.Public.{identifiers-differ}
 use Rattle.mka_station.specs.Lives.{Member, Entry, keys_of}
@@ -129,38 +129,38 @@ module _ (settings : Settings) (users : List UserFrame) (run : Run) (is : IsSett
   -- ---- the rules on keys are kept
 
   pub life-kept : (n : ℕ) → n ≤ length run → (u : ℕ) (l : Life)
-      → life settings u (upto n run) ≡ Some l → Kept l.member.base (keys_in l)
+      → life settings u (upto n run) ≡ Some l → KeepsRules l.member.base (keys_in l)
   unfolding life
   life-kept n high =
       along (λ r. (u : ℕ) (l : Life) → life settings u r ≡ Some l
-      → Kept l.member.base (keys_in l)) run n high (λ u l e. absurd (cc (e)))
+      → KeepsRules l.member.base (keys_in l)) run n high (λ u l e. absurd (cc (e)))
       (λ k x p at h u l e. elim (part settings users u x (upto k run)
       (step-of k x (omega arith) at)) [
         | parts.same same none ↦ h u l (sym same ∙ e)
         | parts.ticks next m ev living same ↦
             let now : lived m (turn_at_tick settings u (upto k run) m next (sak_in x.facts)) ≡ l =
             let f = sym same ∙ e in cc (f) in
-            subst (λ (w : Life). Kept w.member.base (keys_in w)) now
+            subst (λ (w : Life). KeepsRules w.member.base (keys_in w)) now
             (kept-turn m.member.base (keys_in m) _
             (tick-is_turn m.member (seen_at settings u (upto k run) m next)
             (sak_in x.facts) m.past) (h u m living))
         | parts.hears number octets m a came living sec right same ↦
             let now : lived m (hear_turn m.member a m.past) ≡ l = let f = sym same ∙ e in cc (f) in
-            subst (λ (w : Life). Kept w.member.base (keys_in w)) now
+            subst (λ (w : Life). KeepsRules w.member.base (keys_in w)) now
             (kept-turn m.member.base (keys_in m) _ (hear-is_turn m.member a m.past) (h u m living))
         | parts.born m none birth same fact ↦
             let now : m ≡ l = let f = sym same ∙ e in cc (f) in
-            subst (λ (w : Life). Kept w.member.base (keys_in w)) now
-            (subst (λ w. Kept m.member.base w) (sym (keys-new m.member m.past none)) tt)
+            subst (λ (w : Life). KeepsRules w.member.base (keys_in w)) now
+            (subst (λ w. KeepsRules m.member.base w) (sym (keys-new m.member m.past none)) tt)
       ])
 
-  keys-kept : (o : Option Life) → ((l : Life) → o ≡ Some l → Kept l.member.base (keys_in l))
-      → (base : ℕ) × Kept base (keys_of_life o)
+  keys-kept : (o : Option Life) → ((l : Life) → o ≡ Some l → KeepsRules l.member.base (keys_in l))
+      → (base : ℕ) × KeepsRules base (keys_of_life o)
   keys-kept None f = (0, tt)
   keys-kept (Some l) f = (l.member.base, f l refl)
 
   pub kept-at : (u n : ℕ) → n ≤ length run
-      → (base : ℕ) × Kept base (keys_at settings u (upto n run))
+      → (base : ℕ) × KeepsRules base (keys_at settings u (upto n run))
   unfolding keys_at
   kept-at u n high = keys-kept (life settings u (upto n run)) (λ l e. life-kept n high u l e)
 

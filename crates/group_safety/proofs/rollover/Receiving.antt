@@ -14,7 +14,7 @@ use Rattle.sak_exchange.specs.declared.change.Change.TheVariants as changes
 use Rattle.sak_exchange.specs.declared.held_key.Key.{Key}
 use Rattle.sak_exchange.specs.Histories.{Keying}
 use Rattle.sak_exchange.specs.Histories as keyings
-use Rattle.sak_exchange.specs.Held.{Kept, received, held}
+use Rattle.sak_exchange.specs.Held.{KeepsRules, received, held}
 use Rattle.sak_exchange.specs.Beginning.{Beginning}
 use Rattle.sak_exchange.specs.Outcomes.{beginning}
 use Rattle.sak_exchange.proofs.Public.{by_test, by_option}
@@ -99,7 +99,7 @@ reaction-slots t u h n re s =
 -- ---- turns
 
 key-stage : (base : ℕ) (h1 g : List Keying) (lead : Option Beginning) (r : _) (key : Option Key)
-    (w : List Receiving) → g ≡ h1 → Kept base h1
+    (w : List Receiving) → g ≡ h1 → KeepsRules base h1
     → ((k : Key) → key ≡ Some k → lead ≡ None) → Stands (with_began lead h1) w
     → Stands (with_key r key (with_began lead h1)) (slots_by (install_changes g r key) w)
 unfolding slots_by
@@ -111,7 +111,7 @@ key-stage base h1 g (Some b) r (Some k) w same kept none stands = let e = none k
     absurd (cc (e))
 
 pub tick-stands : (m : Member) (seen : _) (sak : _) (p : List Entry) (s : List Receiving)
-    → Kept m.base (keys_of m p) → Stands (keys_of m p) s
+    → KeepsRules m.base (keys_of m p) → Stands (keys_of m p) s
     → Stands (keys_of m (tick_turn m seen sak p).past)
     (slots_by (tick_turn m seen sak p).reaction.changes s)
 unfolding tick_turn
@@ -152,7 +152,7 @@ none-offered : (m : Member) (v : _) (o : _) → o ≡ None
 none-offered m v o none = rw none refl
 
 pub hear-stands : (m : Member) (a : Announcement) (p : List Entry) (s : List Receiving)
-    → Kept m.base (keys_of m p) → Stands (keys_of m p) s
+    → KeepsRules m.base (keys_of m p) → Stands (keys_of m p) s
     → Stands (keys_of m (hear_turn m a p).past) (slots_by (hear_turn m a p).reaction.changes s)
 unfolding hear_turn
 hear-stands m a p s kept stands =
@@ -273,7 +273,7 @@ claim-slots settings t s pn r k w = by_test (pn == 0) (λ y. rw y refl) (λ y. r
 
 heard-stands : (m : Member) (j : Result Announcement DropReason) (p : List Entry)
     (s : List Receiving)
-    → Kept m.base (keys_of m p) → Stands (keys_of m p) s
+    → KeepsRules m.base (keys_of m p) → Stands (keys_of m p) s
     → Stands (keys_of m (Rattle.mka_station.specs.Hearing.heard_turn m j p).past)
     (slots_by (Rattle.mka_station.specs.Hearing.heard_turn m j p).reaction.changes s)
 unfolding slots_by
@@ -305,7 +305,7 @@ no-life-keys settings t r never =
 
 pub on-stands : (settings : Settings) (users : List UserFrame) (x : Happening) (r : Run) (t : ℕ)
     → Kind settings users r x.event x.facts
-    → ((l : Life) → life settings t r ≡ Some l → Kept l.member.base (keys_of l.member l.past))
+    → ((l : Life) → life settings t r ≡ Some l → KeepsRules l.member.base (keys_of l.member l.past))
     → ((l : Life) → life settings t r ≡ Some l → t < length (stations r))
     → Stands (keys_at settings t r) (receiving t r)
     → Stands (keys_at settings t (x ∷ r)) (receiving t (x ∷ r))
@@ -405,7 +405,7 @@ on-stands settings users x r t (kinds.reached s number octets l came living q) k
     arrived settings t r number octets l sec = rw sec refl
 
     frame-stands : (m : Member) (octets : List ℕ) (p : List Entry) (s : List Receiving)
-        → Kept m.base (keys_of m p) → Stands (keys_of m p) s
+        → KeepsRules m.base (keys_of m p) → Stands (keys_of m p) s
         → Stands (keys_of m (frame_turn m octets p).past)
         (slots_by (frame_turn m octets p).reaction.changes s)
     frame-stands m octets p s k stands = heard-stands m (judged m.setup octets) p s k stands

@@ -11,7 +11,7 @@ use Rattle.sak_exchange.specs.declared.change.Cause.TheVariants.{All}
 use Rattle.sak_exchange.specs.declared.held_key.Key.{Key}
 use Rattle.sak_exchange.specs.Histories.{Keying, ticked, began, installed, clock, installs}
 use Rattle.sak_exchange.specs.Histories.{begun_at, has_begun, install_count, last_roster}
-use Rattle.sak_exchange.specs.Held.{Kept, latest, old, allows}
+use Rattle.sak_exchange.specs.Held.{KeepsRules, latest, old, allows}
 use Rattle.sak_exchange.specs.Beginning.{Beginning, is_latest_made}
 use Rattle.sak_exchange.specs.Lives.{Has, IsNumbered}
 use Rattle.sak_exchange.proofs.Public.{by_test, by_option, latest-epoch, first-is, keys-installed}
@@ -78,7 +78,7 @@ began-now e h = let t = eq-eqb e e refl in rw t refl
 
 -- a key that is led is named after the life
 led-owner : (m : Member) (p : List Entry) (b : Beginning) → IsLed m (view m (lives.ticked ∷ p)) b
-    → IsNumbered m.mi (keys_of m p) → Kept m.base (keys_of m p) → b.key.id.server ≡ m.mi
+    → IsNumbered m.mi (keys_of m p) → KeepsRules m.base (keys_of m p) → b.key.id.server ≡ m.mi
 led-owner m p b r numbered kept =
     let now = view-keys m (lives.ticked ∷ p) ∙ keys-ticked m p in
     let h = keys_of m p in
@@ -96,7 +96,7 @@ pub record IsBeginning (h g : List Keying) (k : Key) : Type 0 where
   pub begun_is : begun_at g k.epoch ≡ Some (clock g)
 
 pub beginning-tick : (m : Member) (seen : _) (sak : _) (p : List Entry) (h g : List Keying)
-    (b : Beginning) → IsTickTurn m seen sak p h g → Kept m.base g
+    (b : Beginning) → IsTickTurn m seen sak p h g → KeepsRules m.base g
     → led m (view m (lives.ticked ∷ p)) ≡ Some b → IsBeginning h g b.key
 beginning-tick m seen sak p h g b t kept leads =
     let h1 = with_tick t.turn.tick h in
@@ -111,14 +111,14 @@ beginning-tick m seen sak p h g b t kept leads =
     record {
       latest_is = subst (λ w. latest w ≡ Some b.key) (sym whole)
           (latest-stays m.base (began b.key.epoch ∷ []) h1 b.key
-          (subst (Kept m.base) whole kept) tt newest);
+          (subst (KeepsRules m.base) whole kept) tt newest);
       begun_is = subst (λ w. begun_at w b.key.epoch ≡ Some (clock w)) (sym whole)
           (began-now b.key.epoch h1);
     }
 
 -- and one that makes a key
 pub making-tick : (m : Member) (seen : _) (sak : _) (p : List Entry) (h g : List Keying) (k : Key)
-    → IsTickTurn m seen sak p h g → Kept m.base g
+    → IsTickTurn m seen sak p h g → KeepsRules m.base g
     → made m (view m (lives.ticked ∷ p)) seen sak ≡ Some k → latest g ≡ Some k
 making-tick m seen sak p h g k t kept makes_k =
     let h2 = with_began t.turn.lead (with_tick t.turn.tick h) in
@@ -126,7 +126,7 @@ making-tick m seen sak p h g k t kept makes_k =
     t.turn.whole ∙ ap (λ o. with_began o (with_key t.turn.roster t.turn.key h2)) t.follow_is
     ∙ ap (λ o. with_key t.turn.roster o h2) (t.key_is ∙ makes_k) in
     subst (λ w. latest w ≡ Some k) (sym whole)
-    (keys-installed m.base h2 t.turn.roster k (subst (Kept m.base) whole kept)).latest
+    (keys-installed m.base h2 t.turn.roster k (subst (KeepsRules m.base) whole kept)).latest
 
 pub count-tick : (t : Option Bool) (h : List Keying)
     → install_count (with_tick t h) ≡ install_count h
@@ -154,7 +154,7 @@ module _ (settings : Settings) (users : List UserFrame) (run : Run) (is : IsSett
       → x.event ≡ events.Tick u next → life settings u (upto n run) ≡ Some l
       → IsTickTurn l.member (seen_at settings u (upto n run) l next) (sak_in x.facts) l.past
       (keys_at settings u (upto n run)) (keys_at settings u (upto (suc n) run))
-      × Kept l.member.base (keys_at settings u (upto (suc n) run))
+      × KeepsRules l.member.base (keys_at settings u (upto (suc n) run))
   tick-turn-then u n next x l high at tick living =
       elim (key-part settings users run is stepped unforged fresh u n x high at) [
         | lived.rests same none ↦ let e = sym none
@@ -173,7 +173,7 @@ module _ (settings : Settings) (users : List UserFrame) (run : Run) (is : IsSett
             (seen_at settings u (upto n run) v next) (sak_in x.facts) v.past
             (keys_at settings u (upto n run)) (keys_at settings u (upto (suc n) run))) same_l t2
             in
-            let first = subst (Kept l.member.base)
+            let first = subst (KeepsRules l.member.base)
             (sym (keys-of-life settings u (upto n run) l living))
             (life-kept settings users run is stepped unforged fresh n (omega arith) u l living)
             in (
@@ -216,7 +216,7 @@ module _ (settings : Settings) (users : List UserFrame) (run : Run) (is : IsSett
       let within = m.within in
       let h = keys_at settings u (upto n run) in
       let base : ℕ = m.life_then.member.base in
-      let first = subst (Kept base) (sym
+      let first = subst (KeepsRules base) (sym
       (keys-of-life settings u (upto n run) m.life_then m.living))
       (life-kept settings users run is stepped unforged fresh n
       (omega arith) u m.life_then m.living) in
@@ -347,7 +347,7 @@ module _ (settings : Settings) (users : List UserFrame) (run : Run) (is : IsSett
         let here = keys-of-life settings o.server (upto o.start run) L.life_then L.living in
         let now = view-keys m (lives.ticked ∷ p) ∙ keys-ticked m p
         ∙ ap (λ w. ticked on ∷ w) (sym here) in
-        let first = subst (Kept m.base) (sym here)
+        let first = subst (KeepsRules m.base) (sym here)
         (life-kept settings users run is stepped unforged fresh o.start
         (omega arith) o.server L.life_then L.living) in
         let newest = subst (λ w. latest w ≡ Some L.by.key) now l.latest_key in (

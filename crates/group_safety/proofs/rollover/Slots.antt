@@ -16,7 +16,7 @@ use Rattle.sak_exchange.specs.declared.offer.Offer.{Offer}
 use Rattle.sak_exchange.specs.declared.held_key.Key.{Key}
 use Rattle.sak_exchange.specs.Histories.{Keying, clock, installs, begun_at}
 use Rattle.sak_exchange.specs.Histories as keyings
-use Rattle.sak_exchange.specs.Held.{Kept, received, ends, retires, held, shown, is_retire_time_ago}
+use Rattle.sak_exchange.specs.Held.{KeepsRules, received, ends, retires, held, shown, is_retire_time_ago}
 use Rattle.sak_exchange.specs.Beginning.{Beginning, retired}
 use Rattle.sak_exchange.specs.Outcomes.{beginning}
 use Rattle.sak_exchange.specs.Lives.{Has}
@@ -49,7 +49,7 @@ unfoldable pub AnsDiffer : List Key → Type 0
 AnsDiffer [] = Unit {0}
 AnsDiffer (k ∷ ks) = NoneHas k.an ks × AnsDiffer ks
 
-pub ans-differ : (base : ℕ) (h : List Keying) → Kept base h → AnsDiffer (received h)
+pub ans-differ : (base : ℕ) (h : List Keying) → KeepsRules base h → AnsDiffer (received h)
 unfolding NoneHas AnsDiffer
 ans-differ base h kept =
     elim (shape base h kept) [
@@ -128,7 +128,7 @@ cond-sak false o = refl
 -- taking away what an entry ends
 ended-standing : (base : ℕ) (h : List Keying) (x : Keying) (s : List Receiving)
     (an : AssociationNumber)
-    → Kept base h → Stands h s
+    → KeepsRules base h → Stands h s
     → standing_key (removals (filter (ends x h) (received h)) s) an ≡ sak_under an
     (filter (λ k. not (ends x h k)) (received h))
 ended-standing base h x s an kept stands =
@@ -152,7 +152,7 @@ pub stands-with_began : (b : Option Beginning) (h : List Keying) (s : List Recei
 stands-with_began None h s stands = stands
 stands-with_began (Some b) h s stands = stands-began h b.key.epoch s stands
 
-stands-installed : (base : ℕ) (h : List Keying) (r : _) (k : Key) (s : List Receiving) → Kept base h
+stands-installed : (base : ℕ) (h : List Keying) (r : _) (k : Key) (s : List Receiving) → KeepsRules base h
     → Stands h s
     → Stands (keyings.installed r k ∷ h)
     (installed k.an k.sak ∷ removals (filter (ends (keyings.installed r k) h) (received h)) s)
@@ -166,7 +166,7 @@ pub filter-all : (ks : List Key) → filter (λ k. true) ks ≡ ks
 filter-all [] = refl
 filter-all (k ∷ ks) = ap (λ t. k ∷ t) (filter-all ks)
 
-stands-dropped : (base : ℕ) (h : List Keying) (s : List Receiving) → Kept base h → Stands h s
+stands-dropped : (base : ℕ) (h : List Keying) (s : List Receiving) → KeepsRules base h → Stands h s
     → Stands (keyings.ticked false ∷ h) (removals (received h) s)
 unfolding received
 stands-dropped base h s kept stands an =
@@ -187,7 +187,7 @@ ended-two : (base : ℕ) (h : List Keying) (l o : Key) → received h ≡ l ∷ 
 ended-two base h l o r on = rw r
     (by_test (ends (keyings.ticked true) h o) (λ t. rw (on, t) refl) (λ t. rw (on, t) refl))
 
-retired-ended : (base : ℕ) (h : List Keying) → Kept base h
+retired-ended : (base : ℕ) (h : List Keying) → KeepsRules base h
     → filter (ends (keyings.ticked true) h) (received h) ≡ option_to_list (retired h)
 retired-ended base h kept =
     elim (shape base h kept) [
@@ -217,7 +217,7 @@ retired-ended base h kept =
           (λ ago. rw (t, keys.0, ago) refl))
     ]
 
-stands-retired : (base : ℕ) (h : List Keying) (s : List Receiving) → Kept base h → Stands h s
+stands-retired : (base : ℕ) (h : List Keying) (s : List Receiving) → KeepsRules base h → Stands h s
     → Stands (keyings.ticked true ∷ h) (removals (option_to_list (retired h)) s)
 unfolding received
 stands-retired base h s kept stands an =
@@ -278,7 +278,7 @@ installing-slots h r k s =
 
 -- an install, if there is one
 pub stands-with_key : (base : ℕ) (h : List Keying) (r : _) (key : Option Key) (s : List Receiving)
-    → Kept base h → Stands h s
+    → KeepsRules base h → Stands h s
     → Stands (with_key r key h) (slots_by (install_changes h r key) s)
 unfolding slots_by
 stands-with_key base h r None s kept stands = stands
@@ -287,7 +287,7 @@ stands-with_key base h r (Some k) s kept stands =
     (stands-installed base h r k s kept stands)
 
 pub stands-taken : (base : ℕ) (h : List Keying) (o : Option Offer)
-    (answer : Option (Result Key Why)) (s : List Receiving) → Kept base h → Stands h s
+    (answer : Option (Result Key Why)) (s : List Receiving) → KeepsRules base h → Stands h s
     → ((o ≡ None) → answer ≡ None) → Stands (with_key None (key_taken answer) h)
     (slots_by (take_changes h o answer) s)
 unfolding slots_by
@@ -300,7 +300,7 @@ stands-taken base h (Some o) (Some (Ok k)) s kept stands both =
 stands-taken base h (Some o) (Some (Err why)) s kept stands both = stands
 
 -- what a tick ends
-pub stands-ended : (base : ℕ) (h : List Keying) (server : _) (s : List Receiving) → Kept base h
+pub stands-ended : (base : ℕ) (h : List Keying) (server : _) (s : List Receiving) → KeepsRules base h
     → Stands h s
     → Stands (keyings.ticked (is_some server) ∷ h) (slots_by (ended h server) s)
 stands-ended base h None s kept stands =

@@ -9,7 +9,7 @@ use Rattle.sak_exchange.specs.declared.due.Seen.{Seen}
 use Rattle.sak_exchange.specs.declared.held_key.Key.{Key}
 use Rattle.sak_exchange.specs.Histories.{Keying, ticked, clock, begun_at}
 use Rattle.sak_exchange.specs.Histories.{install_count}
-use Rattle.sak_exchange.specs.Held.{Kept, latest, allows, may_begin}
+use Rattle.sak_exchange.specs.Held.{KeepsRules, latest, allows, may_begin}
 use Rattle.sak_exchange.specs.Beginning.{Beginning}
 use Rattle.sak_exchange.specs.Lives.{IsQuiet}
 use Rattle.sak_exchange.proofs.Public.{by_test}
@@ -63,22 +63,22 @@ pub record IsTurn (base : ℕ) (h g : List Keying) : Type 0 where
 
 -- ---- what it leaves
 
-kept-tick : (base : ℕ) (t : Option Bool) (h : List Keying) → Kept base h → Kept base (with_tick t h)
+kept-tick : (base : ℕ) (t : Option Bool) (h : List Keying) → KeepsRules base h → KeepsRules base (with_tick t h)
 kept-tick base None h kept = kept
 kept-tick base (Some s) h kept = kept
 
-kept-began : (base : ℕ) (b : Option Beginning) (h : List Keying) → Kept base h
-    → ((c : Beginning) → b ≡ Some c → may_begin h c.key.epoch ≡ true) → Kept base (with_began b h)
+kept-began : (base : ℕ) (b : Option Beginning) (h : List Keying) → KeepsRules base h
+    → ((c : Beginning) → b ≡ Some c → may_begin h c.key.epoch ≡ true) → KeepsRules base (with_began b h)
 kept-began base None h kept may = kept
 kept-began base (Some b) h kept may = (may b refl, kept)
 
-kept-key : (base : ℕ) (r : Option (List Mi)) (k : Option Key) (h : List Keying) → Kept base h
+kept-key : (base : ℕ) (r : Option (List Mi)) (k : Option Key) (h : List Keying) → KeepsRules base h
     → ((j : Key) → k ≡ Some j → (j.epoch ≡ (base + install_count h) + 1) × (allows h ≡ true))
-    → Kept base (with_key r k h)
+    → KeepsRules base (with_key r k h)
 kept-key base r None h kept may = kept
 kept-key base r (Some k) h kept may = let both = may k refl in (both.0, both.1, kept)
 
-pub kept-turn : (base : ℕ) (h g : List Keying) → IsTurn base h g → Kept base h → Kept base g
+pub kept-turn : (base : ℕ) (h g : List Keying) → IsTurn base h g → KeepsRules base h → KeepsRules base g
 kept-turn base h g t kept =
     let h1 = with_tick t.tick h in
     let h2 = with_began t.lead h1 in
@@ -86,7 +86,7 @@ kept-turn base h g t kept =
     let k1 = kept-tick base t.tick h kept in
     let k2 = kept-began base t.lead h1 k1 t.may_lead in
     let k3 = kept-key base t.roster t.key h2 k2 t.may_install in
-    subst (Kept base) (sym t.whole) (kept-began base t.follow h3 k3 t.may_follow)
+    subst (KeepsRules base) (sym t.whole) (kept-began base t.follow h3 k3 t.may_follow)
 
 -- ---- the new entries
 

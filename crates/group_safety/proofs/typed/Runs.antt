@@ -137,7 +137,7 @@ if-heard (Some octets) h is are = go (is_sec octets)
 
 -- what is to be shown of an event: its facts, the octets that it brings, the lives after it, and
 -- what waits then
-pub record Comes (settings : Settings) (users : List UserFrame) (e : Event) (f : List Fact) (r : Run) :
+pub record IsTypedEvent (settings : Settings) (users : List UserFrame) (e : Event) (f : List Fact) (r : Run) :
     Type 0 where
   pub told : All IsTypedFact f
   pub brings : (s : ℕ) (octets : List ℕ) → reaches s r e ≡ Some octets → AreOctets octets
@@ -147,7 +147,7 @@ pub record Comes (settings : Settings) (users : List UserFrame) (e : Event) (f :
   pub starts : (p : Profile) → In p (started e) → IsStation p
 
 come : (settings : Settings) (users : List UserFrame) (e : Event) (f : List Fact) (r : Run)
-    → Stands settings users r → Comes settings users e f r
+    → Stands settings users r → IsTypedEvent settings users e f r
     → Stands settings users (happened e f ∷ r)
 unfolding air receiving claimed stations
 come settings users e f r old is = record {
@@ -331,7 +331,7 @@ drawn-secret settings (Some sak) is = is.secret
 
 start-comes : (settings : Settings) (users : List UserFrame) (name : Name) (sci : Sci) (priority : ℕ)
     (f : List Fact) (r : Run) → IsStep settings users (happened (events.Start name sci priority) f) r
-    → Stands settings users r → Comes settings users (events.Start name sci priority) f r
+    → Stands settings users r → IsTypedEvent settings users (events.Start name sci priority) f r
 unfolding expected life
 start-comes settings users name sci priority f r step old =
     let is = mapped (λ mi. facts.Life (length (stations r)) mi ∷ []) (drawn_mi f) f step.shows in
@@ -353,7 +353,7 @@ start-comes settings users name sci priority f r step old =
 
 tick-comes : (settings : Settings) (users : List UserFrame) (s next : ℕ) (f : List Fact) (r : Run)
     → IsStepped settings users r → IsStep settings users (happened (events.Tick s next) f) r
-    → Stands settings users r → Comes settings users (events.Tick s next) f r
+    → Stands settings users r → IsTypedEvent settings users (events.Tick s next) f r
 unfolding expected life
 tick-comes settings users s next f r stepped step old = record {
   told = subst (All IsTypedFact) is.2
@@ -416,7 +416,7 @@ reach-comes : Refuses → (settings : Settings) (users : List UserFrame) (s numb
     → ((t : ℕ) → t ≢ s → life settings t (happened e f ∷ r) ≡ life settings t r)
     → claimed_by settings r e ≡ [] → started e ≡ []
     → ((t : ℕ) (xs : List ℕ) → reaches t r e ≡ Some xs → AreOctets xs)
-    → Comes settings users e f r
+    → IsTypedEvent settings users e f r
 reach-comes refuses settings users s number octets e f r l stepped old small all alive shows here others
     claims starts brings = record {
       told = subst (All IsTypedFact) shows (by-kind (is_sec octets));
@@ -472,7 +472,7 @@ if-reaches false o xs is e = absurd (none-some e)
 deliver-comes : Refuses → (settings : Settings) (users : List UserFrame) (frame s : ℕ) (f : List Fact)
     (r : Run) → IsStepped settings users r
     → IsStep settings users (happened (events.Deliver frame s) f) r → Stands settings users r
-    → Comes settings users (events.Deliver frame s) f r
+    → IsTypedEvent settings users (events.Deliver frame s) f r
 unfolding expected life
 deliver-comes refuses settings users frame s f r stepped step old =
     let there = chained (λ x. option_map (reached_facts settings s r frame x.octets) (life settings s r))
@@ -490,7 +490,7 @@ deliver-comes refuses settings users frame s f r stepped step old =
 inject-comes : Refuses → (settings : Settings) (users : List UserFrame) (s : ℕ) (octets : List ℕ)
     (f : List Fact) (r : Run) → IsStepped settings users r
     → IsStep settings users (happened (events.Inject s octets) f) r → Stands settings users r
-    → Comes settings users (events.Inject s octets) f r
+    → IsTypedEvent settings users (events.Inject s octets) f r
 unfolding expected life
 inject-comes refuses settings users s octets f r stepped step old =
     let is = mapped (reached_facts settings s r 0 octets) (life settings s r) f step.shows in
@@ -503,7 +503,7 @@ inject-comes refuses settings users s octets f r stepped step old =
 
 restart-comes : (settings : Settings) (users : List UserFrame) (s : ℕ) (f : List Fact) (r : Run)
     → IsStep settings users (happened (events.Restart s) f) r → Stands settings users r
-    → Comes settings users (events.Restart s) f r
+    → IsTypedEvent settings users (events.Restart s) f r
 unfolding expected life
 restart-comes settings users s f r step old =
     let drew = chained (λ mi. option_map (restart_facts s mi) (life settings s r)) (drawn_mi f) f
@@ -534,7 +534,7 @@ transmits-typed settings users s r k old is =
 
 claim-comes : (settings : Settings) (users : List UserFrame) (s user pn : ℕ) (f : List Fact) (r : Run)
     → IsStep settings users (happened (events.Claim s user pn) f) r → Stands settings users r
-    → Comes settings users (events.Claim s user pn) f r
+    → IsTypedEvent settings users (events.Claim s user pn) f r
 unfolding expected life
 claim-comes settings users s user pn f r step old =
     let is = mapped (λ l. claim_fact settings s r pn (transmitting_at settings s r) ∷ [])
@@ -591,7 +591,7 @@ sent-octets users w p user is station found =
 
 emit-comes : (settings : Settings) (users : List UserFrame) (f : List Fact) (r : Run)
     → IsStepped settings users r → IsStep settings users (happened events.Emit f) r
-    → Stands settings users r → Comes settings users events.Emit f r
+    → Stands settings users r → IsTypedEvent settings users events.Emit f r
 unfolding expected life
 emit-comes settings users f r stepped step old =
     let there = chained (emit_facts users r) (waiting settings r) f step.shows in
@@ -618,7 +618,7 @@ emit-comes settings users f r stepped step old =
 
 event-comes : Refuses → (settings : Settings) (users : List UserFrame) (e : Event) (f : List Fact)
     (r : Run) → IsStepped settings users r → IsStep settings users (happened e f) r
-    → Stands settings users r → Comes settings users e f r
+    → Stands settings users r → IsTypedEvent settings users e f r
 event-comes refuses settings users (events.Start name sci priority) f r stepped step old =
     start-comes settings users name sci priority f r step old
 event-comes refuses settings users (events.Tick s next) f r stepped step old =

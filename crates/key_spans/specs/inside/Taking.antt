@@ -6,13 +6,13 @@ use Rattle.lan_base.specs.declared.association_number.AssociationNumber.{Associa
 use Rattle.lan_base.specs.declared.association_number.AssociationNumber.TheVariants.{An0, An1, An2, An3}
 use Rattle.lan_core.specs.declared.fact.Fact.{Fact}
 use Rattle.lan_core.specs.declared.fact.Fact.TheVariants as shows
-use Rattle.tick_columns.specs.Columns.{IsThinned, Kept as Columns}
+use Rattle.tick_columns.specs.Columns.{IsThinned, Columns}
 use Rattle.key_spans.specs.declared.span.Span.{Span}
 use Rattle.key_spans.specs.declared.span.Turn.{Turn}
 use Rattle.key_spans.specs.declared.span.Turn.TheVariants.{Ends}
 use Rattle.key_spans.specs.declared.span.Why.TheVariants.{Replaced}
 use Rattle.key_spans.specs.Spans.{clock_after, opened, touched, turn_by}
-use Rattle.key_spans.specs.Standing.{Kept, Rows, installed_at, row_at, row_in}
+use Rattle.key_spans.specs.Standing.{KeptSpans, Rows, installed_at, row_at, row_in}
 
 abbrev pub HasEnded : Span → Type 0
 HasEnded span = IsTrue (is_some span.ended)
@@ -84,35 +84,35 @@ IsOnly An3 P old new = P old.an3 new.an3 × (new ≡ record old { an3 = new.an3 
 
 -- ---- the rows of all stations
 
-pub record IsTaken (fact : Fact) (old new : Kept) : Type 0 where
+pub record IsFactTaken (fact : Fact) (old new : KeptSpans) : Type 0 where
   pub clock_is : new.clock ≡ clock_after old.clock fact
   pub rows_are : (s : ℕ) (an : AssociationNumber)
       → IsRowAfter s an old.clock.ticks fact (row_at old.lanes s an) (row_at new.lanes s an)
 
 -- rows of nothing may have come
-pub record IsReached (old new : Kept) : Type 0 where
+pub record IsReached (old new : KeptSpans) : Type 0 where
   pub clock_is : new.clock ≡ old.clock
   pub rows_are : (s : ℕ) (an : AssociationNumber) → row_at new.lanes s an ≡ row_at old.lanes s an
 
 -- a station without rows installs nothing
-abbrev pub IsPlaced : Fact → Kept → Type 0
+abbrev pub IsPlaced : Fact → KeptSpans → Type 0
 IsPlaced fact kept = slice_get kept.lanes (place fact) ≡ None → installs 0 fact ≡ None
 
 -- the spans are those of before
-pub record IsKept (old new : Kept) : Type 0 where
+pub record IsKept (old new : KeptSpans) : Type 0 where
   pub clock_is : new.clock ≡ old.clock
   pub rows_are : (s : ℕ) (an : AssociationNumber)
       → IsKeptRow old.clock.ticks (row_at old.lanes s an) (row_at new.lanes s an)
 
 -- the rows of the station that shows a fact became those after it, and the others are as they were
-pub record IsTakenAt (fact : Fact) (old new : Kept) (rows : Rows) : Type 0 where
+pub record IsTakenAt (fact : Fact) (old new : KeptSpans) (rows : Rows) : Type 0 where
   pub then : Rows
   pub lane : IsLaneAfter (place fact) old.clock.ticks fact rows then
   pub clock_is : new.clock ≡ old.clock
   pub here : slice_get new.lanes (place fact) ≡ Some then
   pub others : (t : ℕ) → t ≢ place fact → slice_get new.lanes t ≡ slice_get old.lanes t
 
-abbrev pub TakesAt : Fact → Kept → Kept → Option Rows → Result (Unit {0}) AllocError → Type 0
+abbrev pub TakesAt : Fact → KeptSpans → KeptSpans → Option Rows → Result (Unit {0}) AllocError → Type 0
 TakesAt fact old new None result = (new ≡ old) × (is_ok result ≡ true)
 TakesAt fact old new (Some rows) (Ok done) = IsTakenAt fact old new rows
 TakesAt fact old new (Some rows) (Err error) = IsKept old new

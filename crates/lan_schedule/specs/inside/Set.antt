@@ -31,9 +31,9 @@ IsGiven false next n = n ≡ next
 IsGiven true next n = (next ≤ n) × (next ≡ 0 → n ≡ 0)
 
 -- the number that they give to a claim
-abbrev pub IsTaken : Bool → ℕ → ℕ → Type 0
-IsTaken false next n = (n ≡ next) × (next ≤ last_number)
-IsTaken true next n =
+abbrev pub IsClaimNumber : Bool → ℕ → ℕ → Type 0
+IsClaimNumber false next n = (n ≡ next) × (next ≤ last_number)
+IsClaimNumber true next n =
     ((1 ≤ next) × (next ≤ n) × (n ≤ last_number)) ⊎ ((next ≡ 0) × (n ≡ 0))
 
 -- The greatest count of claims before one more, from the first race on: a race may lose 16 numbers of

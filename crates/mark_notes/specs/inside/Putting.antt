@@ -5,7 +5,7 @@ use Rattle.std.specs.Option.{option_or}
 use Rattle.std.specs.BTreeMap.{is_at}
 use Rattle.std.specs.Ordering.{nat_cmp}
 use Rattle.lan_base.specs.declared.address.Sci.{Sci}
-use Rattle.tick_columns.specs.Columns.{IsThinned, Kept as Columns}
+use Rattle.tick_columns.specs.Columns.{IsThinned, Columns}
 use Rattle.mark_notes.specs.declared.giving.Giving.{Giving}
 use Rattle.mark_notes.specs.declared.reuse.Reuse.{Reuse}
 use Rattle.mark_notes.specs.Standing.{sci_cmp}

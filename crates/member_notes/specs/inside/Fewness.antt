@@ -11,12 +11,12 @@ use Rattle.member_notes.specs.declared.mkpdu.First.{First}
 use Rattle.member_notes.specs.declared.seldom.Seldom.{Seldom}
 use Rattle.member_notes.specs.Facts.{times}
 use Rattle.member_notes.specs.Speakers.{Speaker}
-use Rattle.member_notes.specs.Standing.{Kept}
+use Rattle.member_notes.specs.Standing.{KeptOfMember}
 
-abbrev pub kept_of_one : ℕ → First → Kept
+abbrev pub kept_of_one : ℕ → First → KeptOfMember
 kept_of_one mn first = record { firsts = (mn, first) ∷ []; greatest = Some mn }
 
-abbrev pub kept_in : Notes → Kept
+abbrev pub kept_in : Notes → KeptOfMember
 kept_in (One mn first) = kept_of_one mn first
 kept_in (More notes) = notes.value
 

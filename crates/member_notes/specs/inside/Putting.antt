@@ -4,11 +4,11 @@ use Rattle.std.specs.Map.{lookup}
 use Rattle.std.specs.BTreeMap.{is_at}
 use Rattle.lan_base.specs.declared.address.Mi.{Mi}
 use Rattle.member_notes.specs.declared.mkpdu.RightMkpdu.{RightMkpdu}
-use Rattle.member_notes.specs.Standing.{Kept, Keeps, Members, member_cmp}
+use Rattle.member_notes.specs.Standing.{KeptOfMember, Keeps, Members, member_cmp}
 
 -- what stands for these MKPDUs is found under a member, and what is found under others is as it was
 pub record IsPutAt (at : ℕ × Mi) (ms : List RightMkpdu) (old new : Members) : Type 0 where
-  pub kept : Kept
+  pub kept : KeptOfMember
   pub here : lookup (is_at (member_cmp at)) new ≡ Some kept
   pub keeps : Keeps ms kept
   pub others : (other : ℕ × Mi) → other ≢ at

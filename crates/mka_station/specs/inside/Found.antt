@@ -36,7 +36,7 @@ pub record IsAhead (setup : Setup) (mi : Mi) (peers : Table) (c : Found) : Type 
   pub found : IsTrue c.ahead → IsIn (candidate_by setup mi) (rows_shown_later peers) c
 
 -- this is what the next tick finds
-pub record Comes (m : Member) (p : List Entry) (c : Found) : Type 0 where
+pub record IsFoundNext (m : Member) (p : List Entry) (c : Found) : Type 0 where
   pub rows : (at : ℕ) → slice_get c.rows at ≡ row_at (own m) (peers_ticked ∷ peers_of m p) at
   pub told : c.reports ≡ reports (view m (ticked ∷ p)).live
   pub server : c.server ≡ (view m (ticked ∷ p)).server

@@ -16,7 +16,7 @@ ghost use Rattle.mka_station.specs.Lives.{Member, Entry, own, peers_of, keys_of}
 ghost use Rattle.mka_station.specs.Tick.{tick_turn, install_changes};
 ghost use Rattle.mka_station.specs.Drawing.{next_sak, sak_of, draws_at, makes_next, is_short};
 ghost use Rattle.mka_station.specs.Standing.{StandsFor, HasRoom};
-ghost use Rattle.mka_station.specs.inside.Found.{IsAhead, Comes};
+ghost use Rattle.mka_station.specs.inside.Found.{IsAhead, IsFoundNext};
 ghost use Rattle.mka_station.specs.inside.Quiet.{IsQuiet, IsQuietTurn};
 ghost use Rattle.mka_station.specs.inside.Reached.{IsTicked};
 ghost use Rattle.mka_station.specs.inside.Turns.{made_by, keys_made, IsDue};
@@ -118,7 +118,7 @@ impl Station {
     ) -> Result<Ticked, AllocError>
         requires room { HasRoom self.now }
         ensures { (m : Member) (p : List Entry) (any : Secret) → StandsFor m self.now p →
-            Comes m p peer_view.now → sak ≡ cond (makes_next m p seen.now) (Some any) None →
+            IsFoundNext m p peer_view.now → sak ≡ cond (makes_next m p seen.now) (Some any) None →
             IfOk result (IsTicked m p seen.now any) }
     {
         let server = peer_view.server;
@@ -177,7 +177,7 @@ fn foresee(
     requires { IsAhead config.now mi.now peers.now peer_view.old }
     ensures ahead { IsAhead config.now mi.now peers.now peer_view.new }
     ensures comes { (m : Member) (p : List Entry) → m.setup ≡ config.now → m.mi ≡ mi.now →
-        PeersStandFor (own m) peers.now (peers_of m p) → Comes m p peer_view.new }
+        PeersStandFor (own m) peers.now (peers_of m p) → IsFoundNext m p peer_view.new }
     ensures makes { (m : Member) (p : List Entry) → m.setup ≡ config.now → m.mi ≡ mi.now →
         PeersStandFor (own m) peers.now (peers_of m p) →
         KeysStandFor m.base m.mi false keys.old (keys_of m p) →

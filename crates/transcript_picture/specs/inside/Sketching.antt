@@ -6,21 +6,21 @@ use Rattle.transcript_check.specs.declared.fault.CheckError.{CheckError}
 use Rattle.transcript_check.specs.declared.fault.CheckError.TheVariants.{Refused, Memory}
 use Rattle.transcript_check.specs.declared.fault.CheckFault.{CheckFault}
 use Rattle.transcript_check.specs.Standing.{AreSaksOf, Saks, refusal}
-use Rattle.key_spans.specs.Standing.{Kept as Spans}
+use Rattle.key_spans.specs.Standing.{KeptSpans}
 use Rattle.transcript_picture.specs.Standing.{Shows}
 
 -- the SAKs that the facts installed, and their spans
-pub record Kept : Type 0 where
+pub record KeptSketch : Type 0 where
   pub saks : Saks
-  pub spans : Spans
+  pub spans : KeptSpans
 
 -- after these facts
-pub record IsSketchOf (facts : List Fact) (kept : Kept) : Type 0 where
+pub record IsSketchOf (facts : List Fact) (kept : KeptSketch) : Type 0 where
   pub saks_are : AreSaksOf facts kept.saks
   pub shows : Shows facts kept.spans
 
 -- a fact was taken behind others; or it is refused, and nothing changed; or memory ran out
-abbrev pub Sketches : List Fact → Fact → Kept → Kept → Result (Unit {0}) CheckError → Type 0
+abbrev pub Sketches : List Fact → Fact → KeptSketch → KeptSketch → Result (Unit {0}) CheckError → Type 0
 Sketches facts fact old new (Ok done) = (refusal facts fact ≡ None) × IsSketchOf (facts ++ fact ∷ []) new
 Sketches facts fact old new (Err (Refused why)) = (refusal facts fact ≡ Some why) × (new ≡ old)
 Sketches facts fact old new (Err Memory) = Unit {0}
@@ -30,7 +30,7 @@ abbrev pub Refuses : List Fact → Fact → CheckFault → Type 0
 Refuses facts fact why = refusal facts fact ≡ Some why
 
 -- facts were taken since a first moment; there is no outlet that could fail
-abbrev pub sketched : {K : Type 0} → Courses Kept K
+abbrev pub sketched : {K : Type 0} → Courses KeptSketch K
 sketched = record {
   Took = λ first facts now. IsSketchOf facts now.taker;
   Broke = λ first facts now. Unit {0};

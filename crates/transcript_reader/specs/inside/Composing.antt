@@ -9,7 +9,7 @@ use Rattle.transcript_reader.specs.Taking.{Courses, Rule}
 use Rattle.transcript_reader.specs.Transcripts.{AreTaken}
 use Rattle.transcript_reader.specs.declared.take_error.TakeError.{TakeError}
 use Rattle.transcript_reader.specs.declared.take_error.TakeError.TheVariants.{Refused, Failed, Memory}
-use Rattle.transcript_reader.specs.inside.Lines.{Comes, DidLines, Seeing, TookAll, TookPart, beside}
+use Rattle.transcript_reader.specs.inside.Lines.{TookBy, DidLines, Seeing, TookAll, TookPart, beside}
 
 taken-append : {F : Type 0} (rule : Rule F) (known : Known) (facts : List Fact) (xs ys : List (List ℕ))
     (mid : Known) (told : List Fact) (last : Known) (all : List Fact) → AreTaken rule known facts xs mid told
@@ -47,8 +47,8 @@ module _ {F : Type 0} (rule : Rule F) (known : Known) (facts : List Fact) (xs : 
 
   module _ {T K : Type 0} (courses : Courses T K) (start : Moment T K) (ys : List (List ℕ)) (after : Known)
       (count : ℕ) (now : Moment T K) where
-    comes-more : (r : Result (Unit {0}) (TakeError F)) → Comes rule courses start mid told ys after count now r
-        → Comes rule courses start known facts (xs ++ ys) after count now r
+    comes-more : (r : Result (Unit {0}) (TakeError F)) → TookBy rule courses start mid told ys after count now r
+        → TookBy rule courses start known facts (xs ++ ys) after count now r
     comes-more (Ok done) u = all-more (λ told. courses.Took start told now) ys after count u
     comes-more (Err (Refused why)) u = record {
       earlier = xs ++ u.earlier;
@@ -79,8 +79,8 @@ module _ {F : Type 0} (rule : Rule F) (known : Known) (facts : List Fact) (xs ys
 
   comes-early : {T K : Type 0} (courses : Courses T K) (start : Moment T K) (after : Known) (count : ℕ)
       (now : Moment T K) (error : TakeError F)
-      → Comes rule courses start known facts xs after count now (Err error)
-      → Comes rule courses start known facts (xs ++ ys) after count now (Err error)
+      → TookBy rule courses start known facts xs after count now (Err error)
+      → TookBy rule courses start known facts (xs ++ ys) after count now (Err error)
   comes-early courses start after count now (Refused why) u = record {
     earlier = u.earlier;
     line = u.line;

@@ -54,15 +54,16 @@ pub record TookPart {F : Type 0} (rule : Rule F) (Holds : List Fact → Type 0) 
   pub taken : AreTaken rule known facts front after told
   pub holds : Holds told
 
-abbrev pub Comes : {F T K : Type 0} → Rule F → Courses T K → Moment T K → Known → List Fact → List (List ℕ)
+-- By the answer: all of the lines were taken; those up to one that was refused; or a front.
+abbrev pub TookBy : {F T K : Type 0} → Rule F → Courses T K → Moment T K → Known → List Fact → List (List ℕ)
     → Known → ℕ → Moment T K → Result (Unit {0}) (TakeError F) → Type 0
-Comes rule courses first known facts lines after count now (Ok done) =
+TookBy rule courses first known facts lines after count now (Ok done) =
     TookAll rule (λ told. courses.Took first told now) known facts lines after count
-Comes rule courses first known facts lines after count now (Err (Refused why)) =
+TookBy rule courses first known facts lines after count now (Err (Refused why)) =
     TookTo rule (λ told. courses.Took first told now) known facts lines count why
-Comes rule courses first known facts lines after count now (Err Failed) =
+TookBy rule courses first known facts lines after count now (Err Failed) =
     TookPart rule (λ told. courses.Cut first told now) known facts lines
-Comes rule courses first known facts lines after count now (Err Memory) =
+TookBy rule courses first known facts lines after count now (Err Memory) =
     TookPart rule (λ told. courses.Broke first told now) known facts lines
 
 -- what a call did with lines, whatever was taken before
@@ -71,7 +72,7 @@ pub record DidLines {F P T K : Type 0} (rule : Rule F) (courses : Courses T K) (
     : Type 0 where
   pub takes : (first : Moment T K) (facts : List Fact) → see.count old.taker ≡ length facts
       → courses.Took first facts (beside see old)
-      → Comes rule courses first (see.known old.taker) facts lines (see.known new.taker) (see.count new.taker)
+      → TookBy rule courses first (see.known old.taker) facts lines (see.known new.taker) (see.count new.taker)
       (beside see new) result
   pub grew : Grew old.outlet new.outlet
   pub failed : result ≡ Err Failed → Fails old.outlet new.outlet

@@ -17,10 +17,10 @@ use Rattle.use_notes.specs.declared.frame.RightFrame.{RightFrame}
 use Rattle.use_notes.specs.declared.changes.change.Change.{Change}
 use Rattle.use_notes.specs.declared.changes.change.Handover.{Handover}
 use Rattle.use_notes.specs.changes.Changes.{frames_from, firsts, neighbours, change, changes_of, sci_cmp, AreChangesOf}
-use Rattle.use_notes.specs.changes.Standing.{Kept, Keeps, KeepsSome, Senders, StandsFor, change_told, handover}
+use Rattle.use_notes.specs.changes.Standing.{KeptOfSender, Keeps, KeepsSome, Senders, StandsFor, change_told, handover}
 use Rattle.use_notes.proofs.changing.Putting.{ties}
 
-abbrev pub told_at : Sci × Kept → List Change
+abbrev pub told_at : Sci × KeptOfSender → List Change
 told_at e = map (change_told e.0) e.1.handovers
 
 -- nothing is left of a list that was gone over
@@ -41,13 +41,13 @@ told-each : (sci : Sci) (fs : List RightFrame) (ps : List (RightFrame × RightFr
 told-each sci fs [] = refl
 told-each sci fs (p ∷ ps) = ap (λ (cs : List Change). change sci fs p.0.key p.1 ∷ cs) (told-each sci fs ps)
 
-told-of : (sci : Sci) (fs : List RightFrame) (kept : Kept) → Keeps fs kept
+told-of : (sci : Sci) (fs : List RightFrame) (kept : KeptOfSender) → Keeps fs kept
     → map (change_told sci) kept.handovers ≡ changes_of sci fs
 told-of sci fs kept keeps =
     ap (λ (vs : List Handover). map (change_told sci) vs) keeps.handovers ∙ told-each sci fs (neighbours (firsts fs))
 
 flat-told : (f : Sci → List Change) (es : Senders)
-    → ((i : ℕ) (sci : Sci) (kept : Kept) → slice_get es i ≡ Some (sci, kept) → told_at (sci, kept) ≡ f sci)
+    → ((i : ℕ) (sci : Sci) (kept : KeptOfSender) → slice_get es i ≡ Some (sci, kept) → told_at (sci, kept) ≡ f sci)
     → flat_map told_at es ≡ flat_map f (keys_of es)
 flat-told f [] each = refl
 flat-told f (e ∷ es) each =

@@ -12,7 +12,7 @@ use Rattle.use_notes.specs.Frames.{IsBehind, AreInOrder}
 use Rattle.use_notes.specs.Uses.{newest_packet}
 use Rattle.use_notes.specs.declared.changes.change.Handover.{Handover}
 use Rattle.use_notes.specs.changes.Changes.{under, earlier, later, is_first, firsts, neighbours, time_since_newest, time_to_newest}
-use Rattle.use_notes.specs.changes.Standing.{Kept, Keeps, handover, turn_of, newest_of, newest_under}
+use Rattle.use_notes.specs.changes.Standing.{KeptOfSender, Keeps, handover, turn_of, newest_of, newest_under}
 use Rattle.use_notes.specs.changes.inside.Passing.{Begins, passed, passes_on, passed_from, handovers_at, newest_at, goes_on}
 use Rattle.use_notes.proofs.changing.First.{has_key, known-turn, is-first, is-known, AreApart, firsts-apart, firsts-behind, under-own, under-other, under-behind, some-under, all-earlier, none-later, not-earlier, is-later, few-later}
 
@@ -202,7 +202,7 @@ went e fs (b ∷ es) turn order fits apart behind some = go (b.key == e.key) ref
 firsts-same : (fs : List RightFrame) (e : RightFrame) → is_first fs e ≡ false → firsts (e ∷ fs) ≡ firsts fs
 firsts-same fs e is = ap (λ b. cond b (e ∷ firsts fs) (firsts fs)) is
 
-pub keeps-on : (e : RightFrame) (fs : List RightFrame) (old : Kept) (turn : ℕ) → Keeps fs old → AreInOrder (e ∷ fs)
+pub keeps-on : (e : RightFrame) (fs : List RightFrame) (old : KeptOfSender) (turn : ℕ) → Keeps fs old → AreInOrder (e ∷ fs)
     → e.packet ≤ 4294967295 → lookup (is_at (nat_cmp e.key)) old.turns ≡ Some turn → Keeps (e ∷ fs) (goes_on turn e old)
 keeps-on e fs old turn keeps order fits found =
     let some : turn_of e.key (firsts fs) ≡ Some turn = sym (keeps.turns e.key) ∙ found in
@@ -259,7 +259,7 @@ begun e fs (a ∷ es) are behind none =
 other-at : (a b : ℕ) → (a ≡ b → ⊥) → is_at (nat_cmp a) b ≡ false
 other-at a b apart = sym (unsigned_ties a b) ∙ ne_eqb a b apart
 
-pub keeps-new : (e : RightFrame) (fs : List RightFrame) (old new : Kept) → Keeps fs old → AreInOrder (e ∷ fs)
+pub keeps-new : (e : RightFrame) (fs : List RightFrame) (old new : KeptOfSender) → Keeps fs old → AreInOrder (e ∷ fs)
     → lookup (is_at (nat_cmp e.key)) old.turns ≡ None → Begins e old new → Keeps (e ∷ fs) new
 keeps-new e fs old new keeps order found begins = record {
   turns = λ key. turns key (cases_eq e.key key)

@@ -14,7 +14,7 @@ use Rattle.lan_base.specs.Identifiers.{same_sci}
 use Rattle.use_notes.specs.declared.frame.RightFrame.{RightFrame}
 use Rattle.use_notes.specs.Frames.{IsBehind, AreInOrder}
 use Rattle.use_notes.specs.changes.Changes.{frames_from, sci_cmp}
-use Rattle.use_notes.specs.changes.Standing.{Kept, Keeps, KeepsSome, Senders, StandsFor, kept_at}
+use Rattle.use_notes.specs.changes.Standing.{KeptOfSender, Keeps, KeepsSome, Senders, StandsFor, kept_at}
 use Rattle.use_notes.specs.changes.inside.Putting.{IsPutAt}
 
 equal : (o : Ordering) → is_eq o ≡ true → o ≡ Equal
@@ -39,11 +39,11 @@ same-itself : (a : Sci) → same_sci a a ≡ true
 same-itself a = nat_list_eq_equiv.refl a.0
 
 -- what an insertion says of what is found
-abbrev Changes : Sci → Kept → Senders → Senders → Type 0
+abbrev Changes : Sci → KeptOfSender → Senders → Senders → Type 0
 Changes at kept old new =
     (q : Sci) → lookup (is_at (sci_cmp q)) new ≡ cond (is_at (sci_cmp at) q) (Some kept) (lookup (is_at (sci_cmp q)) old)
 
-untouched : (at : Sci) (kept : Kept) (old new : Senders) → Changes at kept old new → (q : Sci) → q ≢ at
+untouched : (at : Sci) (kept : KeptOfSender) (old new : Senders) → Changes at kept old new → (q : Sci) → q ≢ at
     → lookup (is_at (sci_cmp q)) new ≡ lookup (is_at (sci_cmp q)) old
 untouched at kept old new changes q apart = go (is_at (sci_cmp at) q) refl
   where
@@ -52,7 +52,7 @@ untouched at kept old new changes q apart = go (is_at (sci_cmp at) q) refl
     go false e = changes q ∙ ap (λ b. cond b (Some kept) (lookup (is_at (sci_cmp q)) old)) e
 
 -- what is kept of a sender was put
-pub put-at : (at : Sci) (fs : List RightFrame) (kept : Kept) (old new : Senders) → Keeps fs kept
+pub put-at : (at : Sci) (fs : List RightFrame) (kept : KeptOfSender) (old new : Senders) → Keeps fs kept
     → Changes at kept old new → lookup (is_at (sci_cmp at)) new ≡ Some kept → IsPutAt at fs old new
 put-at at fs kept old new keeps changes here = record {
   kept = kept;

@@ -53,25 +53,25 @@ newest_under fs [] = None
 newest_under fs (first ∷ older) = newest_of (under first.key fs)
 
 -- of a sender: by key its turn; the changes in turn; the last frame under the newest key
-pub record Kept : Type 0 where
+pub record KeptOfSender : Type 0 where
   pub turns : List (ℕ × ℕ)
   pub handovers : List Handover
   pub newest : Option RightFrame
 
 -- after these frames of the sender
-pub record Keeps (fs : List RightFrame) (kept : Kept) : Type 0 where
+pub record Keeps (fs : List RightFrame) (kept : KeptOfSender) : Type 0 where
   pub turns : (key : ℕ) → lookup (is_at (nat_cmp key)) kept.turns ≡ turn_of key (firsts fs)
   pub handovers : kept.handovers ≡ map (handover fs) (neighbours (firsts fs))
   pub newest : kept.newest ≡ newest_under fs (firsts fs)
 
 -- by sender what is kept
 abbrev pub Senders : Type 0
-Senders = List (Sci × Kept)
+Senders = List (Sci × KeptOfSender)
 
-abbrev pub kept_at : Senders → Sci → Option Kept
+abbrev pub kept_at : Senders → Sci → Option KeptOfSender
 kept_at senders sci = lookup (is_at (sci_cmp sci)) senders
 
-abbrev pub KeepsSome : List RightFrame → Option Kept → Type 0
+abbrev pub KeepsSome : List RightFrame → Option KeptOfSender → Type 0
 KeepsSome fs None = fs ≡ []
 KeepsSome fs (Some kept) = Keeps fs kept
 

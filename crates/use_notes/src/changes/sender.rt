@@ -22,9 +22,9 @@ pub struct SenderKeys {
 }
 
 impl Model for SenderKeys {
-    ghost use Rattle.use_notes.specs.changes.Standing.{Kept};
+    ghost use Rattle.use_notes.specs.changes.Standing.{KeptOfSender};
 
-    ghost Value = { Kept };
+    ghost Value = { KeptOfSender };
 
     ghost view = { λ s. record { turns = s.turns.entries; handovers = s.handovers.items; newest = s.newest } };
 }

@@ -10,7 +10,7 @@ use Rattle.sak_exchange.specs.declared.change.Change.{Change}
 use Rattle.sak_exchange.specs.declared.change.Change.TheVariants.{Dropped, Retired, Installed}
 use Rattle.sak_exchange.specs.declared.held_key.Key.{Key}
 use Rattle.sak_exchange.specs.Histories.{Keying, ticked, installed, began, begun_at, has_begun}
-use Rattle.sak_exchange.specs.Held.{Kept, ends as ended_by, received, latest, old, transmitting, held, shown as seen_as}
+use Rattle.sak_exchange.specs.Held.{KeepsRules, ends as ended_by, received, latest, old, transmitting, held, shown as seen_as}
 use Rattle.sak_exchange.specs.Beginning.{Beginning, retired}
 use Rattle.sak_exchange.specs.Outcomes.{retiring, beginning, installing}
 use Rattle.sak_exchange.specs.Lives.{Has, apart}
@@ -37,7 +37,7 @@ unlike-an a b differ = elim (cases_Bool (same_an a b)) [
 -- ---- what transmits after one entry
 
 -- a tick with an elected server leaves it
-pub sends-ticked : (base : ℕ) (h : List Keying) → Kept base h → transmitting (ticked true ∷ h) ≡ transmitting h
+pub sends-ticked : (base : ℕ) (h : List Keying) → KeepsRules base h → transmitting (ticked true ∷ h) ≡ transmitting h
 sends-ticked base h kept =
     by_option (latest h)
     (λ none. transmitting-is base (ticked true ∷ h) kept ∙ (current-none base (ticked true ∷ h) kept ((keys-ticked base h kept).latest ∙ none)
@@ -58,7 +58,7 @@ sends-ticked base h kept =
         (keys-ticked base h kept).old ∙ (rw (is, none) refl)
 
 -- an install leaves it where it has another AN
-pub sends-installed : (base : ℕ) (h : List Keying) (r : Option (List Mi)) (n : Key) → Kept base (installed r n ∷ h)
+pub sends-installed : (base : ℕ) (h : List Keying) (r : Option (List Mi)) (n : Key) → KeepsRules base (installed r n ∷ h)
     → transmitting (installed r n ∷ h) ≡ apart n.an (transmitting h)
 sends-installed base h r n kept =
     let keys = keys-installed base h r n kept in
@@ -73,19 +73,19 @@ sends-installed base h r n kept =
     ]
 
 -- a beginning of the latest key makes it that
-pub sends-began : (base : ℕ) (h : List Keying) (l : Key) → Kept base (began l.epoch ∷ h) → latest h ≡ Some l
+pub sends-began : (base : ℕ) (h : List Keying) (l : Key) → KeepsRules base (began l.epoch ∷ h) → latest h ≡ Some l
     → transmitting (began l.epoch ∷ h) ≡ Some l
 sends-began base h l kept is =
     transmitting-is base (began l.epoch ∷ h) kept
     ∙ current-begun (began l.epoch ∷ h) l ((keys-began base h l.epoch kept.1).latest ∙ is) (rw (eq-eqb l.epoch l.epoch refl) refl)
 
-pub sends-dropped : (base : ℕ) (h : List Keying) → Kept base h → transmitting (ticked false ∷ h) ≡ None
+pub sends-dropped : (base : ℕ) (h : List Keying) → KeepsRules base h → transmitting (ticked false ∷ h) ≡ None
 sends-dropped base h kept = transmitting-is base (ticked false ∷ h) kept ∙ current-none base (ticked false ∷ h) kept (keys-dropped h).latest
 
 -- ---- keys that are received
 
 -- no two have one AN
-pub an-one : (base : ℕ) (h : List Keying) → Kept base h → (j k : Key) → Has j (received h) → Has k (received h) → j.an ≡ k.an → j ≡ k
+pub an-one : (base : ℕ) (h : List Keying) → KeepsRules base h → (j k : Key) → Has j (received h) → Has k (received h) → j.an ≡ k.an → j ≡ k
 an-one base h kept j k hj hk same = elim (shape base h kept) [
   | shapes.none r ↦ absurd (subst (Has j) r hj)
   | shapes.one l r last ↦ one l (subst (Has j) r hj) (subst (Has k) r hk)
@@ -158,7 +158,7 @@ gone top an (Some k) = cond (same_an an k.an) (absent_after top ∷ []) []
 begun-sent : (h : List Keying) (k : Key) → transmitting h ≡ Some k → has_begun h k.epoch ≡ true
 begun-sent h k sends = last-began h k.epoch (transmitting-last h k sends).0
 
-install-calls : (base : ℕ) (h : List Keying) (r : Option (List Mi)) (n : Key) (top : ℕ) (rest : List Change) → Kept base (installed r n ∷ h)
+install-calls : (base : ℕ) (h : List Keying) (r : Option (List Mi)) (n : Key) (top : ℕ) (rest : List Change) → KeepsRules base (installed r n ∷ h)
     → calls top (an_of (transmitting h)) ((installing h r n).changes ++ rest)
     ≡ gone top n.an (transmitting h) ++ calls top (an_of (transmitting (installed r n ∷ h))) rest
 install-calls base h r n top rest kept =
@@ -197,7 +197,7 @@ begin-calls h (Some b) top o = refl
 -- ---- turns
 
 -- the latest key, which has not begun, is later than the one that transmits
-pub latest-later : (base : ℕ) (h : List Keying) (l : Key) → Kept base (began l.epoch ∷ h) → latest h ≡ Some l
+pub latest-later : (base : ℕ) (h : List Keying) (l : Key) → KeepsRules base (began l.epoch ∷ h) → latest h ≡ Some l
     → (k : Key) → transmitting h ≡ Some k → k.epoch < l.epoch
 latest-later base h l kept is k sends =
     let begun = begun-sent h k sends in
@@ -211,7 +211,7 @@ latest-later base h l kept is k sends =
     ]
 
 -- a new key is later than it
-new-later : (base : ℕ) (h : List Keying) (r : Option (List Mi)) (n b : Key) → Kept base (installed r n ∷ h) → latest (installed r n ∷ h) ≡ Some b
+new-later : (base : ℕ) (h : List Keying) (r : Option (List Mi)) (n b : Key) → KeepsRules base (installed r n ∷ h) → latest (installed r n ∷ h) ≡ Some b
     → (k : Key) → transmitting h ≡ Some k → k.epoch < b.epoch
 new-later base h r n b kept is k sends =
     let same : n ≡ b = some-same (sym (keys-installed base h r n kept).latest ∙ is) in
@@ -225,7 +225,7 @@ new-later base h r n b kept is k sends =
 
 -- an install, or none, and then a beginning, or none: as at a hearing
 pub told-taken : (base : ℕ) (h : List Keying) (r : Option (List Mi)) (key : Option Key) (follow : Option Beginning) (top : ℕ) (cs : List Change)
-    → Kept base (with_began follow (with_key r key h)) → Kept base (with_key r key h)
+    → KeepsRules base (with_began follow (with_key r key h)) → KeepsRules base (with_key r key h)
     → ((b : Beginning) → follow ≡ Some b → latest (with_key r key h) ≡ Some b.key)
     → (key ≡ None → (o : Option AssociationNumber) (rest : List Change) → calls top o (cs ++ rest) ≡ calls top o rest)
     → ((n : Key) → key ≡ Some n → cs ≡ (installing h r n).changes)

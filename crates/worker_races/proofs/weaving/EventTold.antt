@@ -11,7 +11,7 @@ use Rattle.rx_slots.specs.Numbers.{answer}
 use Rattle.mkpdu_codec.specs.declared.announcement.Announcement.{Announcement}
 use Rattle.sak_exchange.specs.declared.change.Change.{Change}
 use Rattle.sak_exchange.specs.declared.change.Change.TheVariants as changes
-use Rattle.sak_exchange.specs.Held.{Kept, transmitting}
+use Rattle.sak_exchange.specs.Held.{KeepsRules, transmitting}
 use Rattle.mka_station.specs.declared.reaction.Reaction.{Reaction}
 use Rattle.mka_station.specs.declared.verdict.DropReason.{DropReason}
 use Rattle.mka_station.specs.declared.verdict.Verdict.{Verdict}
@@ -111,7 +111,7 @@ module _ (settings : Settings) (s : ℕ) (c : Run) (x : Happening) (top : ℕ) w
   unfolding Told
   from-turn l m shown before after is told = rw (before, after, is) told
 
-  ticks-told : (next : ℕ) (l : Life) → Kept l.member.base (keys_in l) → life settings s c ≡ Some l → x.event ≡ events.Tick s next
+  ticks-told : (next : ℕ) (l : Life) → KeepsRules l.member.base (keys_in l) → life settings s c ≡ Some l → x.event ≡ events.Tick s next
       → x.facts ≡ tick_facts settings s c next (sak_in x.facts) l → Told
   ticks-told next l kept living ev is =
       let seen = seen_at settings s c l next in
@@ -121,7 +121,7 @@ module _ (settings : Settings) (s : ℕ) (c : Run) (x : Happening) (top : ℕ) w
       (sym (reaction-words s top 0 (next_frame c) (an_of (transmitting (keys_in l))) turn.reaction))
       (tick-told l.member seen (sak_in x.facts) l.past top kept))
 
-  reached-told : (number : ℕ) (octets : List ℕ) (l : Life) → Kept l.member.base (keys_in l) → life settings s c ≡ Some l
+  reached-told : (number : ℕ) (octets : List ℕ) (l : Life) → KeepsRules l.member.base (keys_in l) → life settings s c ≡ Some l
       → IsReached c x.event s number octets → x.facts ≡ reached_facts settings s c number octets l → Told
   reached-told number octets l kept living came is = elim (cases_Bool (is_sec octets)) [
     | inl sec ↦ from-turn l l (facts.Arrived number s (answer l.member.setup.sci settings.window (receiving s c) octets) ∷ []) living

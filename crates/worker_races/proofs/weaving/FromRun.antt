@@ -6,7 +6,7 @@ use Rattle.std.specs.Prelude.{◌==◌, option_and_then, option_map, slice_get}
 use Rattle.lan_base.specs.declared.frame.UserFrame.{UserFrame}
 use Rattle.sak_exchange.specs.declared.held_key.Key.{Key}
 use Rattle.sak_exchange.specs.Histories.{has_begun}
-use Rattle.sak_exchange.specs.Held.{Kept, transmitting}
+use Rattle.sak_exchange.specs.Held.{KeepsRules, transmitting}
 use Rattle.sak_exchange.proofs.Public.{begun-upto}
 use Rattle.mka_station.specs.Lives.{keys_of}
 use Rattle.mka_station.specs.Hearing.{hear_turn}
@@ -33,23 +33,23 @@ keys-new l none = rw none refl
 
 -- the rules on keys are kept in each life of a stepped run
 pub kept-run : (settings : Settings) (users : List UserFrame) (r : Run) → IsStepped settings users r
-    → (u : ℕ) (l : Life) → life settings u r ≡ Some l → Kept l.member.base (keys_in l)
+    → (u : ℕ) (l : Life) → life settings u r ≡ Some l → KeepsRules l.member.base (keys_in l)
 unfolding life
 kept-run settings users [] stepped u l e = absurd (cc e)
 kept-run settings users (x ∷ r) stepped u l e = elim (part settings users u x r stepped.0) [
   | parts.same same none ↦ kept-run settings users r stepped.1 u l (sym same ∙ e)
   | parts.ticks next m ev living same ↦ (
       let now : lived m (turn_at_tick settings u r m next (sak_in x.facts)) ≡ l = let f = sym same ∙ e in cc f in
-      subst (λ (w : Life). Kept w.member.base (keys_in w)) now
+      subst (λ (w : Life). KeepsRules w.member.base (keys_in w)) now
       (kept-turn m.member.base (keys_in m) _ (tick-is_turn m.member (seen_at settings u r m next) (sak_in x.facts) m.past)
       (kept-run settings users r stepped.1 u m living)))
   | parts.hears number octets m a came living sec right same ↦ (
       let now : lived m (hear_turn m.member a m.past) ≡ l = let f = sym same ∙ e in cc f in
-      subst (λ (w : Life). Kept w.member.base (keys_in w)) now
+      subst (λ (w : Life). KeepsRules w.member.base (keys_in w)) now
       (kept-turn m.member.base (keys_in m) _ (hear-is_turn m.member a m.past) (kept-run settings users r stepped.1 u m living)))
   | parts.born m none birth same fact ↦ (
       let now : m ≡ l = let f = sym same ∙ e in cc f in
-      subst (λ (w : Life). Kept w.member.base (keys_in w)) now (subst (λ w. Kept m.member.base w) (sym (keys-new m none)) tt))
+      subst (λ (w : Life). KeepsRules w.member.base (keys_in w)) now (subst (λ w. KeepsRules m.member.base w) (sym (keys-new m none)) tt))
 ]
 
 -- ---- the key that transmits
@@ -91,7 +91,7 @@ pub data Goes (settings : Settings) (s p : ℕ) (c : Run) (x : Happening) : Type
 
 turns : (settings : Settings) (s p : ℕ) (c : Run) (x : Happening) (m l : Life) → life settings s c ≡ Some m
     → life settings s (x ∷ c) ≡ Some l → l.member.base ≡ m.member.base → IsTurn m.member.base (keys_in m) (keys_in l)
-    → Kept m.member.base (keys_in m) → IsPast settings s c p → Goes settings s p c x
+    → KeepsRules m.member.base (keys_in m) → IsPast settings s c p → Goes settings s p c x
 turns settings s p c x m l before after same t kept past = elim (keys-move m.member.base (keys_in m) (keys_in l) t kept) [
   | inl stay ↦ keeps (in-life settings s (x ∷ c) l after ∙ (stay ∙ sym (in-life settings s c m before))) (still p (past m before))
   | inr moved ↦ elim moved [

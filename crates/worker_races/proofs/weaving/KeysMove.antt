@@ -8,7 +8,7 @@ use Rattle.std.proofs.lemmas.Bool.{eqb-true, eqb-false, eq-eqb, cases_Bool, case
 use Rattle.lan_base.specs.declared.address.Mi.{Mi}
 use Rattle.sak_exchange.specs.declared.held_key.Key.{Key}
 use Rattle.sak_exchange.specs.Histories.{Keying, ticked, installed, began, installs, install_count, has_begun, beginnings, last_begun}
-use Rattle.sak_exchange.specs.Held.{Kept, ends, received, has_epoch, transmitting}
+use Rattle.sak_exchange.specs.Held.{KeepsRules, ends, received, has_epoch, transmitting}
 use Rattle.sak_exchange.specs.Lives.{Has}
 use Rattle.sak_exchange.specs.Beginning.{Beginning}
 use Rattle.sak_exchange.proofs.Public.{begun-upto}
@@ -53,7 +53,7 @@ greatest (began g ∷ h) e f fall is last =
       | inr other ↦ (let less = begun-under g h e fall.0 (rw other at is) in omega (arith, less, same))
     ]
 
-last-is-greatest : (base : ℕ) (h : List Keying) (e f : ℕ) → Kept base h → has_begun h e ≡ true → last_begun h ≡ Some f → e ≤ f
+last-is-greatest : (base : ℕ) (h : List Keying) (e f : ℕ) → KeepsRules base h → has_begun h e ≡ true → last_begun h ≡ Some f → e ≤ f
 last-is-greatest base h e f kept is last = greatest h e f (beginnings-fall base h kept) is last
 
 -- ---- what is received
@@ -99,7 +99,7 @@ count-same (Some b) None h = refl
 count-same (Some b) (Some s) h = refl
 
 -- an installed key is of this life
-pub installed-above : (base : ℕ) (h : List Keying) (k : Key) → Kept base h → Has k (installs h) → base < k.epoch
+pub installed-above : (base : ℕ) (h : List Keying) (k : Key) → KeepsRules base h → Has k (installs h) → base < k.epoch
 installed-above base [] k kept has = absurd has
 installed-above base (ticked s ∷ h) k kept has = installed-above base h k kept has
 installed-above base (installed r n ∷ h) k kept (inl same) =
@@ -127,8 +127,8 @@ pub record IsBegun (base : ℕ) (h g : List Keying) (b : Key) : Type 0 where
   pub later : (e : ℕ) → has_begun h e ≡ true → e < b.epoch
   pub begun : has_begun g b.epoch ≡ true
 
-module _ (base : ℕ) (h g : List Keying) (t : IsTurn base h g) (kept : Kept base h) where
-  kept-then : Kept base g
+module _ (base : ℕ) (h g : List Keying) (t : IsTurn base h g) (kept : KeepsRules base h) where
+  kept-then : KeepsRules base g
   kept-then = kept-turn base h g t kept
 
   pub begun-on : (e : ℕ) → has_begun h e ≡ true → has_begun g e ≡ true

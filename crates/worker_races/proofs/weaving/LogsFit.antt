@@ -14,7 +14,7 @@ use Rattle.packet_claims.specs.declared.answers.NoClaim.TheVariants.{NoKey, Exha
 use Rattle.data_workers.specs.declared.entry.Entry.{Entry}
 use Rattle.data_workers.specs.declared.entry.Entry.TheVariants.{Taken, Refused}
 use Rattle.data_workers.specs.declared.sender.Sender.{Sender}
-use Rattle.data_workers.specs.Logs.{IsEntry, IsTaken, InOrder, Precedes}
+use Rattle.data_workers.specs.Logs.{IsEntry, IsProtectedBy, InOrder, Precedes}
 use Rattle.data_workers.specs.Told.{IsToldEntry, IsToldFrame, times_taken}
 use Rattle.lan_core.specs.declared.settings.Settings.{Settings}
 use Rattle.lan_core.specs.Run.{Run}
@@ -150,7 +150,7 @@ module _ (settings : Settings) (ans : ℕ → AssociationNumber) (pointed : ℕ 
     | inr none ↦ omega (arith, none)
   ]
 
-  taken-fits : (p : Protected) → p.station ≡ sender.station → IsTaken w sender p → IsToldFrame c sender p → IsFit (before_of settings pointed r) ms (attempt_of u (Taken p))
+  taken-fits : (p : Protected) → p.station ≡ sender.station → IsProtectedBy w sender p → IsToldFrame c sender p → IsFit (before_of settings pointed r) ms (attempt_of u (Taken p))
   taken-fits p station is told = record {
     lives = λ taken. (
       is.loaded.0,

@@ -20,7 +20,7 @@ use Rattle.sak_exchange.specs.declared.due.Seen.{Seen}
 use Rattle.sak_exchange.specs.declared.offer.Offer.{Offer}
 use Rattle.sak_exchange.specs.declared.held_key.Key.{Key}
 use Rattle.sak_exchange.specs.Histories.{Keying, ticked, installed}
-use Rattle.sak_exchange.specs.Held.{Kept, ends, received, transmitting, held}
+use Rattle.sak_exchange.specs.Held.{KeepsRules, ends, received, transmitting, held}
 use Rattle.sak_exchange.specs.Beginning.{Beginning, retired}
 use Rattle.sak_exchange.specs.Outcomes.{beginning, installing}
 use Rattle.sak_exchange.specs.Lives.{Has}
@@ -179,7 +179,7 @@ take-drops h (Some o) None k rest one all = all
 take-drops h (Some o) (Some (Ok n)) k rest one all = install-drops h None n k rest one all
 take-drops h (Some o) (Some (Err why)) k rest one all = all
 
-module _ (m : Member) (p : List Entry) (k : Key) (kept : Kept m.base (keys_of m p)) (sends : transmitting (keys_of m p) ≡ Some k) where
+module _ (m : Member) (p : List Entry) (k : Key) (kept : KeepsRules m.base (keys_of m p)) (sends : transmitting (keys_of m p) ≡ Some k) where
   one : (j : Key) → Has j (received (keys_of m p)) → j.an ≡ k.an → j ≡ k
   one j has is = an-one m.base (keys_of m p) kept j k has (transmitting-last (keys_of m p) k sends).1 is
 
@@ -249,7 +249,7 @@ module _ (settings : Settings) (s : ℕ) (c : Run) (x : Happening) (k : Key) (se
   in-it : (l : Life) → life settings s c ≡ Some l → transmitting (keys_in l) ≡ Some k
   in-it l living = sym (in-life settings s c l living) ∙ sends
 
-  reached-drops : (number : ℕ) (octets : List ℕ) (l : Life) → Kept l.member.base (keys_in l) → life settings s c ≡ Some l
+  reached-drops : (number : ℕ) (octets : List ℕ) (l : Life) → KeepsRules l.member.base (keys_in l) → life settings s c ≡ Some l
       → DropsIt s k (reached_facts settings s c number octets l)
   unfolding DropsIt
   reached-drops number octets l kept living = elim (cases_Bool (is_sec octets)) [

@@ -11,7 +11,7 @@ use Rattle.sak_exchange.specs.declared.due.Seen.{Seen}
 use Rattle.sak_exchange.specs.declared.offer.Offer.{Offer}
 use Rattle.sak_exchange.specs.declared.held_key.Key.{Key}
 use Rattle.sak_exchange.specs.Histories.{Keying, ticked}
-use Rattle.sak_exchange.specs.Held.{Kept, received, latest, transmitting}
+use Rattle.sak_exchange.specs.Held.{KeepsRules, received, latest, transmitting}
 use Rattle.sak_exchange.specs.Beginning.{Beginning}
 use Rattle.sak_exchange.specs.Outcomes.{beginning, installing}
 use Rattle.mka_station.specs.Lives.{Member, Entry, keys_of, elected}
@@ -30,8 +30,8 @@ use Rattle.worker_races.proofs.weaving.Calls.{sends-ticked, sends-dropped, sends
 -- ---- a tick
 
 told-ticked : (base : ℕ) (h : List Keying) (server : Option Mi) (lead : Option Beginning) (roster : Option (List Mi)) (key : Option Key) (top : ℕ)
-    → Kept base h → Kept base (with_began lead (ticked (is_some server) ∷ h))
-    → Kept base (with_key roster key (with_began lead (ticked (is_some server) ∷ h)))
+    → KeepsRules base h → KeepsRules base (with_began lead (ticked (is_some server) ∷ h))
+    → KeepsRules base (with_key roster key (with_began lead (ticked (is_some server) ∷ h)))
     → (server ≡ None → (lead ≡ None) × (key ≡ None)) → ((b : Beginning) → lead ≡ Some b → key ≡ None)
     → ((b : Beginning) → lead ≡ Some b → latest (ticked (is_some server) ∷ h) ≡ Some b.key)
     → IsTold top (transmitting h) (transmitting (with_key roster key (with_began lead (ticked (is_some server) ∷ h))))
@@ -71,7 +71,7 @@ told-ticked base h (Some s) None roster key top kept then whole none one newest 
 
 told-heard : (base : ℕ) (h : List Keying) (offer : Option Offer) (answer : Option (Result Key Why)) (follow : Option Beginning) (top : ℕ) (h2 : List Keying)
     → (offer ≡ None → answer ≡ None)
-    → Kept base (with_began follow (with_key None (key_taken answer) h)) → Kept base (with_key None (key_taken answer) h)
+    → KeepsRules base (with_began follow (with_key None (key_taken answer) h)) → KeepsRules base (with_key None (key_taken answer) h)
     → ((b : Beginning) → follow ≡ Some b → latest (with_key None (key_taken answer) h) ≡ Some b.key)
     → IsTold top (transmitting h) (transmitting (with_began follow (with_key None (key_taken answer) h)))
     (calls top (an_of (transmitting h)) (take_changes h offer answer ++ (beginning h2 follow).changes))
@@ -132,15 +132,15 @@ pub ending-changes : (m : Member) (p : List Entry) → (ending m p).changes ≡ 
 unfolding ending
 ending-changes m p = refl
 
-kept-key : (base : ℕ) (r : Option (List Mi)) (key : Option Key) (g : List Keying) → Kept base (with_key r key g) → Kept base g
+kept-key : (base : ℕ) (r : Option (List Mi)) (key : Option Key) (g : List Keying) → KeepsRules base (with_key r key g) → KeepsRules base g
 kept-key base r None g kept = kept
 kept-key base r (Some n) g kept = kept.2
 
-kept-begun : (base : ℕ) (b : Option Beginning) (g : List Keying) → Kept base (with_began b g) → Kept base g
+kept-begun : (base : ℕ) (b : Option Beginning) (g : List Keying) → KeepsRules base (with_began b g) → KeepsRules base g
 kept-begun base None g kept = kept
 kept-begun base (Some b) g kept = kept.1
 
-pub tick-told : (m : Member) (seen : Seen) (sak : Secret) (p : List Entry) (top : ℕ) → Kept m.base (keys_of m p)
+pub tick-told : (m : Member) (seen : Seen) (sak : Secret) (p : List Entry) (top : ℕ) → KeepsRules m.base (keys_of m p)
     → IsTold top (transmitting (keys_of m p)) (transmitting (keys_of m (tick_turn m seen sak p).past))
     (calls top (an_of (transmitting (keys_of m p))) (tick_turn m seen sak p).reaction.changes)
 tick-told m seen sak p top kept =
@@ -149,7 +149,7 @@ tick-told m seen sak p top kept =
     let server = elected m (tick ∷ p) in
     let now : v.keys ≡ ticked (is_some server) ∷ h = view-keys m (tick ∷ p) ∙ keys-ticked m p in
     let t = tick-is_turn m seen sak p in
-    let whole = subst (Kept m.base) (tick-keys m seen sak p) (kept-turn m.base h (keys_of m (tick_turn m seen sak p).past) t kept) in
+    let whole = subst (KeepsRules m.base) (tick-keys m seen sak p) (kept-turn m.base h (keys_of m (tick_turn m seen sak p).past) t kept) in
     let then = kept-key m.base (roster_at m p) (made m v seen sak) (with_began (led m v) (ticked (is_some server) ∷ h)) whole in
     let is = told-ticked m.base h server (led m v) (roster_at m p) (made m v seen sak) top kept then whole
     (λ none. (not-led m v (server-is m p ∙ none), not-made m v seen sak (server-is m p ∙ none)))
@@ -166,7 +166,7 @@ tick-told m seen sak p top kept =
     ++ ((beginning (ticked (is_some server) ∷ h) (led m v)).changes ++ install_changes (ticked (is_some server) ∷ h) (roster_at m p) (made m v seen sak)))))
     (sym (tick-keys m seen sak p)) is)
 
-pub hear-told : (m : Member) (a : Announcement) (p : List Entry) (top : ℕ) → Kept m.base (keys_of m p)
+pub hear-told : (m : Member) (a : Announcement) (p : List Entry) (top : ℕ) → KeepsRules m.base (keys_of m p)
     → IsTold top (transmitting (keys_of m p)) (transmitting (keys_of m (hear_turn m a p).past))
     (calls top (an_of (transmitting (keys_of m p))) (hear_turn m a p).reaction.changes)
 hear-told m a p top kept =
@@ -177,7 +177,7 @@ hear-told m a p top kept =
     let then : v2.keys ≡ with_key None (key_taken (answer_at m a p)) h =
     view-keys m (taken_past m a p) ∙ (keys-installed m None (key_taken (answer_at m a p)) (heard a ∷ p)
     ∙ ap (with_key None (key_taken (answer_at m a p))) (keys-heard m a p)) in
-    let whole = subst (Kept m.base) (hear-keys m a p) (kept-turn m.base h (keys_of m (hear_turn m a p).past) (hear-is_turn m a p) kept) in
+    let whole = subst (KeepsRules m.base) (hear-keys m a p) (kept-turn m.base h (keys_of m (hear_turn m a p).past) (hear-is_turn m a p) kept) in
     let is = told-heard m.base h (offer_at m a p) (answer_at m a p) (follow_at m a p) top v2.keys
     (λ none. silent m v1 (offer_at m a p) none) whole
     (kept-begun m.base (follow_at m a p) (with_key None (key_taken (answer_at m a p)) h) whole)

@@ -4,7 +4,7 @@ use Rattle.std.specs.Map.{lookup}
 use Rattle.std.specs.BTreeMap.{BTreeMap, is_at}
 use Rattle.std.proofs.lemmas.List.Elements.{All-nil}
 use Rattle.lan_base.specs.declared.address.Sci.{Sci}
-use Rattle.tick_columns.specs.Columns.{IsThinned, Kept as Columns}
+use Rattle.tick_columns.specs.Columns.{IsThinned, Columns}
 use Rattle.mark_notes.specs.declared.reuse.Reuse.{Reuse}
 use Rattle.mark_notes.specs.Standing.{KeepsReuses, sci_cmp}
 use Rattle.mark_notes.proofs.reuse.note_reuse.Goals as goal

@@ -5,7 +5,7 @@ use Rattle.std.specs.Map.{set_value}
 use Rattle.std.proofs.lemmas.Map.Steps.{set_value_same}
 use Rattle.lan_base.specs.declared.address.Sci.{Sci}
 use Rattle.use_notes.specs.declared.frame.RightFrame.{RightFrame}
-use Rattle.use_notes.specs.Standing.{Kept, Keeps, KeepsSome}
+use Rattle.use_notes.specs.Standing.{KeptOfUse, Keeps, KeepsSome}
 use Rattle.use_notes.specs.Uses.{use_cmp}
 use Rattle.use_notes.specs.inside.Putting.{IsPutAt}
 use Rattle.use_notes.proofs.Putting.{put-at, on_err, if_ok}
@@ -16,9 +16,9 @@ returns-in-Some-clause-noted c = λ fs keeps order.
     let e = c.args.frame.now in
     let at : ℕ × Sci = (e.key, e.sci) in
     let holds = c.get_mut.follows.holds c.note.new.self in
-    let now = holds.3 (subst (λ (o : Option Kept). IsSome o) c.in-Some.ensures.value refl) in
+    let now = holds.3 (subst (λ (o : Option KeptOfUse). IsSome o) c.in-Some.ensures.value refl) in
     let own : KeepsSome fs (Some c.in-Some.notes.now) =
-    subst (λ (o : Option Kept). KeepsSome fs o) (sym c.in-Some.ensures.value) keeps in
+    subst (λ (o : Option KeptOfUse). KeepsSome fs o) (sym c.in-Some.ensures.value) keeps in
     if_ok c.note.result
     (λ told p. (
       p.0,
@@ -32,7 +32,7 @@ returns-in-Some-clause-kept c =
     let at : ℕ × Sci = (c.args.frame.now.key, c.args.frame.now.sci) in
     on_err c.note.result
     (λ kept. (c.get_mut.follows.holds c.note.new.self).0
-    ∙ ap (λ (own : Kept). set_value (is_at (use_cmp at)) c.args.senders.now.entries own) kept
+    ∙ ap (λ (own : KeptOfUse). set_value (is_at (use_cmp at)) c.args.senders.now.entries own) kept
     ∙ set_value_same (is_at (use_cmp at)) c.args.senders.now.entries c.in-Some.notes.now
     (sym c.in-Some.ensures.value))
     c.note.ensures.kept
@@ -43,12 +43,12 @@ returns-clause-noted c = λ fs keeps order.
     let at : ℕ × Sci = (e.key, e.sci) in
     let left = c.get_mut.follows.lender-at-none in
     let same : left ≡ c.args.senders.now = c.get_mut.follows.holds-at-none in
-    let none : fs ≡ [] = subst (λ (o : Option Kept). KeepsSome fs o) (sym c.in_default.ensures.value) keeps in
+    let none : fs ≡ [] = subst (λ (o : Option KeptOfUse). KeepsSome fs o) (sym c.in_default.ensures.value) keeps in
     let own : Keeps fs c.new-notes.result =
     subst (λ (gs : List RightFrame). Keeps gs c.new-notes.result) (sym none) c.new-notes.ensures in
     let p = c.in_ok-novelty.ensures.noted fs own order in (
       p.0,
-      subst (λ (m : BTreeMap (ℕ × Sci) Kept). IsPutAt at (e ∷ fs) m.entries c.insert.new.self.entries) same
+      subst (λ (m : BTreeMap (ℕ × Sci) KeptOfUse). IsPutAt at (e ∷ fs) m.entries c.insert.new.self.entries) same
           (put-at at (e ∷ fs) c.note-2.new.self left.entries c.insert.new.self.entries p.1
           (λ q. c.in_ok-insert.ensures.updates.0 q) c.in_ok-insert.ensures.updates.1),
     )

@@ -6,7 +6,7 @@ use Rattle.std.specs.Ordering.{nat_cmp}
 use Rattle.use_notes.specs.declared.frame.RightFrame.{RightFrame}
 use Rattle.use_notes.specs.declared.changes.change.Handover.{Handover}
 use Rattle.use_notes.specs.changes.Changes.{milliseconds}
-use Rattle.use_notes.specs.changes.Standing.{Kept}
+use Rattle.use_notes.specs.changes.Standing.{KeptOfSender}
 
 -- between the last frame under a key and the first under the next
 abbrev pub passed : RightFrame → RightFrame → Handover
@@ -41,7 +41,7 @@ newest_at None e newest = Some e
 newest_at (Some v) e newest = newest
 
 -- a frame more under a key that has this turn
-abbrev pub goes_on : ℕ → RightFrame → Kept → Kept
+abbrev pub goes_on : ℕ → RightFrame → KeptOfSender → KeptOfSender
 goes_on turn e kept = record {
   turns = kept.turns;
   handovers = handovers_at (slice_get kept.handovers turn) turn e kept.handovers;
@@ -49,7 +49,7 @@ goes_on turn e kept = record {
 }
 
 -- a frame under a new key
-pub record Begins (e : RightFrame) (old new : Kept) : Type 0 where
+pub record Begins (e : RightFrame) (old new : KeptOfSender) : Type 0 where
   pub handovers : new.handovers ≡ old.handovers ++ passed_from old.newest e
   pub here : lookup (is_at (nat_cmp e.key)) new.turns ≡ Some (length new.handovers)
   pub others : (key : ℕ) → lookup (is_at (nat_cmp key)) new.turns

@@ -1,7 +1,7 @@
 use Rattle.std.proofs.Common.{◌≡◌, ◌∷◌, ◌<◌, subst}
 use Rattle.known_keys.specs.declared.giving.Giving.TheVariants.{Key}
 use Rattle.known_keys.specs.History.{Gave, keys}
-use Rattle.known_keys.specs.Standing.{Kept, StandsFor}
+use Rattle.known_keys.specs.Standing.{KeptKeys, StandsFor}
 use Rattle.known_keys.specs.Telling.{told_of}
 use Rattle.known_keys.specs.Said.{Statement}
 use Rattle.known_keys.specs.Undecided.{GroupId}
@@ -14,9 +14,9 @@ use Rattle.known_keys.proofs.known_keys.KnownKeys.give.Goals as goal
 pub returns-clause-gave : goal.returns-clause-gave
 returns-clause-gave c = λ history stands.
     let d = c.self.inside in
-    let old : Kept = record { keys = d.keys; lists = d.lists; firsts = d.givings; said = d.said; misses = d.misses } in
-    let new : Kept = record { keys = c.number.new.self; lists = c.open.new.self; firsts = c.note.new.self; said = c.put.new.self; misses = c.offer.new.self } in
-    subst (λ (m : Kept). StandsFor history m → m.firsts.last < c.args.packet
+    let old : KeptKeys = record { keys = d.keys; lists = d.lists; firsts = d.givings; said = d.said; misses = d.misses } in
+    let new : KeptKeys = record { keys = c.number.new.self; lists = c.open.new.self; firsts = c.note.new.self; said = c.put.new.self; misses = c.offer.new.self } in
+    subst (λ (m : KeptKeys). StandsFor history m → m.firsts.last < c.args.packet
     → StandsFor (Gave c.args.packet c.args.nanos c.args.group c.args.id c.args.an (Key c.args.offset c.args.sak) ∷ history) new) c.self.view_is
     (λ are above. gave-stands history c.args.packet c.args.nanos c.args.group c.args.id c.args.an c.args.offset c.args.sak
     c.in_ok-number.number old new c.in_ok-note.note c.in_ok-fresh.fresh are above (c.in_ok-number.ensures.keyed (keys history) are.are_kept)
@@ -30,7 +30,7 @@ returns-clause-told c = λ history stands.
     let key = c.in_ok-number.number in
     let others = c.in_ok-note.note in
     let fresh = c.in_ok-fresh.fresh in
-    subst (λ (m : Kept). StandsFor history m
+    subst (λ (m : KeptKeys). StandsFor history m
     → gives_of key fresh.statement fresh.naming others.name others.id
     ≡ told_of history c.args.group c.args.id c.args.an c.args.offset key) c.self.view_is
     (λ are. told-is history c.args.group c.args.id c.args.an c.args.offset key c.args.packet c.self.inside.givings c.note.new.self

@@ -5,7 +5,7 @@ use Rattle.std.specs.BTreeMap.{is_at}
 use Rattle.std.specs.Ordering.{nat_cmp}
 use Rattle.member_notes.specs.declared.mkpdu.First.{First}
 use Rattle.member_notes.specs.Mkpdus.{first_of, novelty_after}
-use Rattle.member_notes.specs.Standing.{Kept, above_all}
+use Rattle.member_notes.specs.Standing.{KeptOfMember, above_all}
 use Rattle.member_notes.specs.declared.member.MkpduNotes.TheInside.{Inside}
 use Rattle.member_notes.proofs.Rising.{rises}
 use Rattle.member_notes.proofs.Firsts.{first-put, first-stays, none-of}
@@ -15,9 +15,9 @@ use Rattle.member_notes.proofs.member.MkpduNotes.note.Goals.{then-is_none+in_ok-
 pub returns-clause-noted : goal.returns-clause-noted
 returns-clause-noted c = λ ms keeps.
     let e = c.args.mkpdu.now in
-    let old : Kept = record { firsts = c.self.inside.firsts.entries; greatest = Some c.self.inside.greatest } in
-    let above = λ (mn : ℕ). ap (λ (m : Kept). above_all mn m.greatest) c.self.view_is ∙ keeps.greatest mn in
-    let were = λ (mn : ℕ). ap (λ (m : Kept). lookup (is_at (nat_cmp mn)) m.firsts) c.self.view_is ∙ keeps.firsts mn in
+    let old : KeptOfMember = record { firsts = c.self.inside.firsts.entries; greatest = Some c.self.inside.greatest } in
+    let above = λ (mn : ℕ). ap (λ (m : KeptOfMember). above_all mn m.greatest) c.self.view_is ∙ keeps.greatest mn in
+    let were = λ (mn : ℕ). ap (λ (m : KeptOfMember). lookup (is_at (nat_cmp mn)) m.firsts) c.self.view_is ∙ keeps.firsts mn in
     let found : c.copied-first.result ≡ first_of e.mn ms =
     c.copied-first.ensures ∙ c.get.ensures.value ∙ were e.mn in
     let told = λ (same : c.if-is_none.self-inside.greatest ≡ c.self.inside.greatest).

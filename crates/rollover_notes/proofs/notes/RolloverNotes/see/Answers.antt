@@ -1,5 +1,5 @@
 use Rattle.std.proofs.Common.{sym, subst}
-use Rattle.rollover_notes.specs.Standing.{Kept, StandsFor}
+use Rattle.rollover_notes.specs.Standing.{KeptRollovers, StandsFor}
 use Rattle.rollover_notes.proofs.Steps.{used}
 use Rattle.rollover_notes.proofs.Telling.{counts-told, late-told}
 use Rattle.rollover_notes.proofs.Views.{kept_of}
@@ -10,7 +10,7 @@ pub returns : goal.returns
 returns c = λ h stands.
     let old = kept_of c.self.inside in
     let frame = c.args.frame.now in
-    let stood : StandsFor h old = subst (λ (k : Kept). StandsFor h k) (sym c.self.view_is) stands in
+    let stood : StandsFor h old = subst (λ (k : KeptRollovers). StandsFor h k) (sym c.self.view_is) stands in
     let counts = c.tell.new.counts.entries in
     let told = c.in_ok-is_late.ensures in
     on_ok c.count_late.result

@@ -6,7 +6,7 @@ use Rattle.std.proofs.lemmas.Map.Steps.{set_value_same}
 use Rattle.lan_base.specs.declared.address.Sci.{Sci}
 use Rattle.use_notes.specs.declared.frame.RightFrame.{RightFrame}
 use Rattle.use_notes.specs.changes.Changes.{sci_cmp}
-use Rattle.use_notes.specs.changes.Standing.{Kept, Keeps, KeepsSome}
+use Rattle.use_notes.specs.changes.Standing.{KeptOfSender, Keeps, KeepsSome}
 use Rattle.use_notes.specs.changes.inside.Putting.{IsPutAt}
 use Rattle.use_notes.proofs.changing.Putting.{put-at, on_err, on_ok}
 use Rattle.use_notes.proofs.changes.notes.note_at.Goals as goal
@@ -15,9 +15,9 @@ pub returns-in-Some-clause-noted : goal.returns-in-Some-clause-noted
 returns-in-Some-clause-noted c = λ fs keeps order.
     let e = c.args.frame.now in
     let holds = c.get_mut.follows.holds c.note.new.self in
-    let now = holds.3 (subst (λ (o : Option Kept). IsSome o) c.in-Some.ensures.value refl) in
+    let now = holds.3 (subst (λ (o : Option KeptOfSender). IsSome o) c.in-Some.ensures.value refl) in
     let own : KeepsSome fs (Some c.in-Some.keys.now) =
-    subst (λ (o : Option Kept). KeepsSome fs o) (sym c.in-Some.ensures.value) keeps in
+    subst (λ (o : Option KeptOfSender). KeepsSome fs o) (sym c.in-Some.ensures.value) keeps in
     on_ok c.note.result
     (λ kept. put-at e.sci (e ∷ fs) c.note.new.self c.args.senders.now.entries
     (c.get_mut.follows.lender c.note.new.self).entries kept now.0 now.1)
@@ -28,7 +28,7 @@ returns-in-Some-clause-kept c =
     let at : Sci = c.args.frame.now.sci in
     on_err c.note.result
     (λ kept. (c.get_mut.follows.holds c.note.new.self).0
-    ∙ ap (λ (own : Kept). set_value (is_at (sci_cmp at)) c.args.senders.now.entries own) kept
+    ∙ ap (λ (own : KeptOfSender). set_value (is_at (sci_cmp at)) c.args.senders.now.entries own) kept
     ∙ set_value_same (is_at (sci_cmp at)) c.args.senders.now.entries c.in-Some.keys.now
     (sym c.in-Some.ensures.value))
     c.note.ensures.kept
@@ -38,10 +38,10 @@ returns-clause-noted c = λ fs keeps order.
     let e = c.args.frame.now in
     let left = c.get_mut.follows.lender-at-none in
     let same : left ≡ c.args.senders.now = c.get_mut.follows.holds-at-none in
-    let none : fs ≡ [] = subst (λ (o : Option Kept). KeepsSome fs o) (sym c.in_default.ensures.value) keeps in
+    let none : fs ≡ [] = subst (λ (o : Option KeptOfSender). KeepsSome fs o) (sym c.in_default.ensures.value) keeps in
     let own : Keeps fs c.new-keys.result =
     subst (λ (gs : List RightFrame). Keeps gs c.new-keys.result) (sym none) c.new-keys.ensures in
-    subst (λ (m : BTreeMap Sci Kept). IsPutAt e.sci (e ∷ fs) m.entries c.insert.new.self.entries) same
+    subst (λ (m : BTreeMap Sci KeptOfSender). IsPutAt e.sci (e ∷ fs) m.entries c.insert.new.self.entries) same
     (put-at e.sci (e ∷ fs) c.note-2.new.self left.entries c.insert.new.self.entries
     (c.in_ok-note.ensures.noted fs own order)
     (λ q. c.in_ok-insert.ensures.updates.0 q) c.in_ok-insert.ensures.updates.1)

@@ -5,7 +5,7 @@ use Rattle.std.specs.BTreeMap.{is_at}
 use Rattle.std.specs.Ordering.{nat_cmp}
 use Rattle.use_notes.specs.declared.frame.First.{First}
 use Rattle.use_notes.specs.Frames.{first_of, novelty_after}
-use Rattle.use_notes.specs.Standing.{Kept}
+use Rattle.use_notes.specs.Standing.{KeptOfUse}
 use Rattle.use_notes.specs.declared.sender.SenderNotes.TheInside.{Inside}
 use Rattle.use_notes.specs.Uses.{counts_of}
 use Rattle.use_notes.proofs.Firsts.{first-put, first-stays, none-of}
@@ -15,9 +15,9 @@ use Rattle.use_notes.proofs.sender.SenderNotes.note.Goals.{then-is_none+in_ok-in
 pub returns-clause-noted : goal.returns-clause-noted
 returns-clause-noted c = λ fs keeps order.
     let e = c.args.frame.now in
-    let old : Kept = record { firsts = c.self.inside.firsts.entries; counts = c.self.inside.counts } in
-    let counts : c.self.inside.counts ≡ counts_of fs = ap (λ (m : Kept). m.counts) c.self.view_is ∙ keeps.counts in
-    let were = λ (pn : ℕ). ap (λ (m : Kept). lookup (is_at (nat_cmp pn)) m.firsts) c.self.view_is ∙ keeps.firsts pn in
+    let old : KeptOfUse = record { firsts = c.self.inside.firsts.entries; counts = c.self.inside.counts } in
+    let counts : c.self.inside.counts ≡ counts_of fs = ap (λ (m : KeptOfUse). m.counts) c.self.view_is ∙ keeps.counts in
+    let were = λ (pn : ℕ). ap (λ (m : KeptOfUse). lookup (is_at (nat_cmp pn)) m.firsts) c.self.view_is ∙ keeps.firsts pn in
     let found : c.copied-first.result ≡ first_of e.pn fs =
     c.copied-first.ensures ∙ c.get.ensures.value ∙ were e.pn in
     let told = c.after.ensures ∙ ap (λ (o : Option First). novelty_after o e) found in
