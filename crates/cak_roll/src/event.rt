@@ -2,6 +2,7 @@
 
 ghost use Rattle.std.specs.Prelude.{◌<◌, All};
 ghost use Rattle.gcm_frames.specs.Protected.{IsSci};
+ghost use Rattle.lan_base.specs.Name.{IsName};
 ghost use Rattle.cak_roll.specs.Unstopped.{IsTypedTwin};
 
 use lan_base::{Name, Sci};
@@ -83,7 +84,7 @@ pub(crate) fn law_fields_are_typed(event: &TwinEvent)
             sci,
             priority,
         } => {
-            name.octets();
+            law_names_are_spelled(name);
             law_channels_are_whole(sci);
             let _priority = *priority;
         }
@@ -95,6 +96,13 @@ pub(crate) fn law_fields_are_typed(event: &TwinEvent)
         }
         _ => {}
     }
+}
+
+/// The octets of a name spell one.
+fn law_names_are_spelled(name: &Name)
+    ensures { IsName name.now }
+{
+    name.octets();
 }
 
 /// A secure channel identifier has its 8 octets. Nothing runs.

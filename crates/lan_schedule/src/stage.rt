@@ -5,6 +5,7 @@ ghost use Rattle.std.specs.Prelude.{◌⊎◌, OnOk, OnErr, IfOk, IfErr, List, [
 ghost use Rattle.std.specs.List.{position_or_len};
 ghost use Rattle.std.specs.Option.{option_copied};
 ghost use Rattle.std.specs.Cmp.Lexicographic.{pointwise};
+ghost use Rattle.lan_base.specs.Name.{IsName};
 ghost use Rattle.lan_core.specs.Types.{IsTyped};
 ghost use Rattle.gcm_frames.specs.Protected.{IsSci};
 ghost use Rattle.lan_core.specs.declared.event.Event.TheVariants as events;
@@ -380,7 +381,7 @@ impl Stage {
             → Did R.Took R.Broke (seq begin (happen (events.Start name sci priority)))
             (moment self.old outlet.old) (moment self.new outlet.new) result }
     {
-        name.octets();
+        law_names_are_spelled(&name);
         let start = Event::Start {
             name,
             sci,
@@ -514,6 +515,13 @@ fn keep(
     };
     steps.push(Step::of(alloc, event, before, after)?)?;
     Ok(())
+}
+
+/// The octets of a name spell one.
+fn law_names_are_spelled(name: &Name)
+    ensures { IsName name.now }
+{
+    name.octets();
 }
 
 /// Facts are counted.

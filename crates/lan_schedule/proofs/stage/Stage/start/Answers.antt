@@ -8,7 +8,7 @@ use Rattle.lan_schedule.proofs.Sending.{begin-does, same-did}
 use Rattle.lan_schedule.proofs.stage.Stage.start.Goals as goal
 
 pub happen-requires : goal.happen-requires
-happen-requires g c = (c.octets.ensures.name, c.requires, c.few.type_inv)
+happen-requires g c = (c.law_names_are_spelled.ensures, c.requires, c.few.type_inv)
 
 pub returns : goal.returns
 returns g c = λ small.
