@@ -24,31 +24,15 @@ use Rattle.lan_core.specs.Expected.{tick_facts, reached_facts, restart_facts, cl
 use Rattle.lan_core.specs.Legal.{IsStep, IsStepped}
 use Rattle.lan_core.specs.Places.{names, ArePlaced}
 use Rattle.lan_core.proofs.FramesNumbered.{mapped, chained}
-use Rattle.lan_core.proofs.OwnLedgers.{AreOf, station_of, tick-is-of, reached-is-of, restart-is-of}
+use Rattle.lan_core.proofs.OwnLedgers.{AreOf, tick-is-of, reached-is-of, restart-is-of}
 
 -- ---- places
-
-place-is : (fact : Fact) → place fact ≡ station_of fact
-place-is (facts.Life s mi) = refl
-place-is (facts.Ticked s at next) = refl
-place-is (facts.Server s mi) = refl
-place-is (facts.Dropped s id an) = refl
-place-is (facts.Retired s id an) = refl
-place-is (facts.Began s id an epoch cause) = refl
-place-is (facts.Installed s id an epoch sak) = refl
-place-is (facts.Untaken s id why) = refl
-place-is (facts.Framed number s sec octets) = refl
-place-is (facts.HeardMka frame s verdict) = refl
-place-is (facts.Claimed s an epoch pn) = refl
-place-is (facts.Unclaimed s why) = refl
-place-is (facts.Arrived frame s arrival) = refl
 
 placed-of : (s count : ℕ) (fs : List Fact) → AreOf s fs → s < count
     → All (λ fact. place fact < count) fs
 placed-of s count [] are less = All-nil (λ fact. place fact < count)
 placed-of s count (fact ∷ fs) (is, are) less =
-    let same : place fact ≡ s = place-is fact ∙ is in
-    All-cons (λ fact. place fact < count) fact fs (omega (arith, same, less))
+    All-cons (λ fact. place fact < count) fact fs (omega (arith, is, less))
     (placed-of s count fs are less)
 
 stations-grow : (x : Happening) (r : Run) → length (stations r) ≤ length (stations (x ∷ r))

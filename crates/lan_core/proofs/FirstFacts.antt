@@ -127,14 +127,4 @@ pub excused-other : (settings : Settings) (r : Run) (ahead : Ahead) (shown : Lis
 excused-other settings r ahead [] are = refl
 excused-other settings r ahead (facts.Claimed s an epoch pn ∷ later) are = elim are [ ]
 excused-other settings r ahead (facts.Unclaimed s why ∷ later) are = elim are [ ]
-excused-other settings r ahead (facts.Life s mi ∷ later) are = refl
-excused-other settings r ahead (facts.Ticked s at next ∷ later) are = refl
-excused-other settings r ahead (facts.Server s mi ∷ later) are = refl
-excused-other settings r ahead (facts.Dropped s id an ∷ later) are = refl
-excused-other settings r ahead (facts.Retired s id an ∷ later) are = refl
-excused-other settings r ahead (facts.Began s id an epoch cause ∷ later) are = refl
-excused-other settings r ahead (facts.Installed s id an epoch sak ∷ later) are = refl
-excused-other settings r ahead (facts.Untaken s id why ∷ later) are = refl
-excused-other settings r ahead (facts.Framed number s sec octets ∷ later) are = refl
-excused-other settings r ahead (facts.HeardMka frame s verdict ∷ later) are = refl
-excused-other settings r ahead (facts.Arrived frame s arrival ∷ later) are = refl
+excused-other settings r ahead (_ ∷ later) are = refl

@@ -19,7 +19,7 @@ use Rattle.mka_station.specs.Restart.{ending}
 use Rattle.lan_core.specs.declared.fact.Fact.{Fact}
 use Rattle.lan_core.specs.declared.fact.Fact.TheVariants as facts
 use Rattle.lan_core.specs.declared.settings.Settings.{Settings}
-use Rattle.lan_core.specs.Run.{Run}
+use Rattle.lan_core.specs.Run.{Run, place}
 use Rattle.lan_core.specs.Ledgers.{gather, install_of, Install}
 use Rattle.lan_core.specs.Lives.{Life, receiving, slot_change, drawn_mi, drawn_sak, turn_at_tick}
 use Rattle.lan_core.specs.Expected.{change_fact, reaction_facts, tick_facts, reached_facts, restart_facts}
@@ -30,24 +30,9 @@ use Rattle.lan_core.proofs.Reactions.{passed-over}
 
 -- ---- facts of one station
 
-abbrev pub station_of : Fact → ℕ
-station_of (facts.Life s mi) = s
-station_of (facts.Ticked s at next) = s
-station_of (facts.Server s mi) = s
-station_of (facts.Dropped s id an) = s
-station_of (facts.Retired s id an) = s
-station_of (facts.Began s id an epoch cause) = s
-station_of (facts.Installed s id an epoch sak) = s
-station_of (facts.Untaken s id why) = s
-station_of (facts.Framed number s sec octets) = s
-station_of (facts.HeardMka frame s verdict) = s
-station_of (facts.Claimed s an epoch pn) = s
-station_of (facts.Unclaimed s why) = s
-station_of (facts.Arrived frame s arrival) = s
-
 abbrev pub AreOf : ℕ → List Fact → Type 0
 AreOf s [] = Unit {0}
-AreOf s (fact ∷ later) = (station_of fact ≡ s) × AreOf s later
+AreOf s (fact ∷ later) = (place fact ≡ s) × AreOf s later
 
 joined : (s : ℕ) (xs ys : List Fact) → AreOf s xs → AreOf s ys → AreOf s (xs ++ ys)
 joined s [] ys are others = others

@@ -49,18 +49,7 @@ use Rattle.lan_core.proofs.OwnLedgers.{reaction-begins-none}
 no_births : (fs : List Fact) (bs : List Birth) → drawn_mi fs ≡ None → gather born fs bs ≡ bs
 no_births [] bs none = refl
 no_births (facts.Life station mi ∷ fs) bs none = absurd (cc none)
-no_births (facts.Ticked s at next ∷ fs) bs none = no_births fs bs none
-no_births (facts.Server s mi ∷ fs) bs none = no_births fs bs none
-no_births (facts.Dropped s id an ∷ fs) bs none = no_births fs bs none
-no_births (facts.Retired s id an ∷ fs) bs none = no_births fs bs none
-no_births (facts.Began s id an epoch cause ∷ fs) bs none = no_births fs bs none
-no_births (facts.Installed s id an epoch sak ∷ fs) bs none = no_births fs bs none
-no_births (facts.Untaken s id why ∷ fs) bs none = no_births fs bs none
-no_births (facts.Framed number s sec octets ∷ fs) bs none = no_births fs bs none
-no_births (facts.HeardMka frame s verdict ∷ fs) bs none = no_births fs bs none
-no_births (facts.Claimed s an epoch pn ∷ fs) bs none = no_births fs bs none
-no_births (facts.Unclaimed s why ∷ fs) bs none = no_births fs bs none
-no_births (facts.Arrived frame s arrival ∷ fs) bs none = no_births fs bs none
+no_births (_ ∷ fs) bs none = no_births fs bs none
 
 -- facts begin one life at most
 abbrev pub BeginsOne : List Fact → Type 0

@@ -188,17 +188,7 @@ no_claim : (s epoch : ℕ) (shown : List Fact) → AreOther shown → after_clai
 no_claim s epoch [] are = refl
 no_claim s epoch (facts.Claimed t an e pn ∷ later) are = elim are [ ]
 no_claim s epoch (facts.Unclaimed t why ∷ later) are = elim are [ ]
-no_claim s epoch (facts.Life t mi ∷ later) are = refl
-no_claim s epoch (facts.Ticked t at next ∷ later) are = refl
-no_claim s epoch (facts.Server t mi ∷ later) are = refl
-no_claim s epoch (facts.Dropped t id an ∷ later) are = refl
-no_claim s epoch (facts.Retired t id an ∷ later) are = refl
-no_claim s epoch (facts.Began t id an e cause ∷ later) are = refl
-no_claim s epoch (facts.Installed t id an e sak ∷ later) are = refl
-no_claim s epoch (facts.Untaken t id why ∷ later) are = refl
-no_claim s epoch (facts.Framed number t sec octets ∷ later) are = refl
-no_claim s epoch (facts.HeardMka frame t verdict ∷ later) are = refl
-no_claim s epoch (facts.Arrived frame t arrival ∷ later) are = refl
+no_claim s epoch (_ ∷ later) are = refl
 
 -- a tick that shows the next number
 by_tick : (settings : Settings) (s epoch station shown : ℕ) (r : Run) (k : Option Key) → station ≡ s
