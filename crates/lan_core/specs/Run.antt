@@ -5,7 +5,7 @@ use Rattle.lan_base.specs.declared.address.Sci.{Sci}
 use Rattle.lan_core.specs.declared.event.Event.{Event}
 use Rattle.lan_core.specs.declared.event.Event.TheVariants.{Start}
 use Rattle.lan_core.specs.declared.fact.Fact.{Fact}
-use Rattle.lan_core.specs.declared.fact.Fact.TheVariants as shows
+pub use Rattle.lan_core.specs.TypedFacts.{place}
 
 -- one event and its facts
 pub record Happening : Type 0 where
@@ -39,19 +39,3 @@ stations (x ∷ r) = stations r ++ started x.event
 abbrev pub facts_of : Run → List Fact
 facts_of [] = []
 facts_of (x ∷ r) = facts_of r ++ x.facts
-
--- the place of the station that a fact speaks of
-abbrev pub place : Fact → ℕ
-place (shows.Life s mi) = s
-place (shows.Ticked s at next) = s
-place (shows.Server s mi) = s
-place (shows.Dropped s id an) = s
-place (shows.Retired s id an) = s
-place (shows.Began s id an epoch cause) = s
-place (shows.Installed s id an epoch sak) = s
-place (shows.Untaken s id why) = s
-place (shows.Framed k s sec xs) = s
-place (shows.HeardMka k s verdict) = s
-place (shows.Claimed s an epoch pn) = s
-place (shows.Unclaimed s why) = s
-place (shows.Arrived k s arrival) = s

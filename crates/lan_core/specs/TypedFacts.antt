@@ -1,5 +1,6 @@
--- Facts with their fields in their types: numbers in their ranges, octets of their lengths.
-use Rattle.std.specs.Prelude.{◌<◌, ◌^◌}
+-- Facts: the place of the station that one speaks of; and with their fields in their types, numbers
+-- in their ranges, octets of their lengths.
+use Rattle.std.specs.Prelude.{ℕ, ◌<◌, ◌^◌}
 use Rattle.lan_base.specs.declared.key_id.KeyId.{KeyId}
 use Rattle.mkpdu_codec.specs.declared.refusal.Refusal.{Refusal}
 use Rattle.mkpdu_codec.specs.declared.refusal.Refusal.TheVariants.{Shape, Repeated}
@@ -18,6 +19,38 @@ use Rattle.lan_core.specs.declared.fact.Fact.TheVariants as facts
 use Rattle.lan_core.specs.declared.fact.Lack.{Lack}
 use Rattle.lan_core.specs.declared.fact.Lack.TheVariants.{Exhausted}
 use Rattle.lan_core.specs.Types.{AreOctets, IsMi, IsSecret, IfDrawn}
+
+-- the place of the station that a fact speaks of
+abbrev pub place : Fact → ℕ
+place (facts.Life s mi) = s
+place (facts.Ticked s at next) = s
+place (facts.Server s mi) = s
+place (facts.Dropped s id an) = s
+place (facts.Retired s id an) = s
+place (facts.Began s id an epoch cause) = s
+place (facts.Installed s id an epoch sak) = s
+place (facts.Untaken s id why) = s
+place (facts.Framed k s sec octets) = s
+place (facts.HeardMka k s verdict) = s
+place (facts.Claimed s an epoch pn) = s
+place (facts.Unclaimed s why) = s
+place (facts.Arrived k s arrival) = s
+
+-- the same of the station at another place
+abbrev pub at_place : ℕ → Fact → Fact
+at_place p (facts.Life s mi) = facts.Life p mi
+at_place p (facts.Ticked s at next) = facts.Ticked p at next
+at_place p (facts.Server s mi) = facts.Server p mi
+at_place p (facts.Dropped s id an) = facts.Dropped p id an
+at_place p (facts.Retired s id an) = facts.Retired p id an
+at_place p (facts.Began s id an epoch cause) = facts.Began p id an epoch cause
+at_place p (facts.Installed s id an epoch sak) = facts.Installed p id an epoch sak
+at_place p (facts.Untaken s id why) = facts.Untaken p id why
+at_place p (facts.Framed k s sec octets) = facts.Framed k p sec octets
+at_place p (facts.HeardMka k s verdict) = facts.HeardMka k p verdict
+at_place p (facts.Claimed s an epoch pn) = facts.Claimed p an epoch pn
+at_place p (facts.Unclaimed s why) = facts.Unclaimed p why
+at_place p (facts.Arrived k s arrival) = facts.Arrived k p arrival
 
 -- a key's identifier
 abbrev pub IsTypedId : KeyId → Type 0

@@ -105,7 +105,7 @@ pub enum Fact {
 
 impl Fact {
     ghost use Rattle.std.specs.Prelude.{◌≡◌};
-    ghost use Rattle.lan_core.specs.Run.{place};
+    ghost use Rattle.lan_core.specs.TypedFacts.{place, at_place};
 
     /// The place of the station that the fact speaks of.
     pub fn place(&self) -> u8
@@ -125,6 +125,27 @@ impl Fact {
             | Fact::Claimed { station, .. }
             | Fact::Unclaimed { station, .. }
             | Fact::Arrived { station, .. } => *station,
+        }
+    }
+
+    /// The station that the fact speaks of is the one at this place from now on.
+    pub fn move_to(&mut self, to: u8)
+        ensures { self.new ≡ at_place to self.old }
+    {
+        match self {
+            Fact::Life { station, .. } => *station = to,
+            Fact::Ticked { station, .. } => *station = to,
+            Fact::Server { station, .. } => *station = to,
+            Fact::Dropped { station, .. } => *station = to,
+            Fact::Retired { station, .. } => *station = to,
+            Fact::Began { station, .. } => *station = to,
+            Fact::Installed { station, .. } => *station = to,
+            Fact::Untaken { station, .. } => *station = to,
+            Fact::Framed { station, .. } => *station = to,
+            Fact::HeardMka { station, .. } => *station = to,
+            Fact::Claimed { station, .. } => *station = to,
+            Fact::Unclaimed { station, .. } => *station = to,
+            Fact::Arrived { station, .. } => *station = to,
         }
     }
 }

@@ -3,7 +3,8 @@
 -- line says.
 use Rattle.std.specs.Prelude.{ℕ, ◌+◌, ◌%◌, ◌==◌, if◌then◌else◌, List, [], ◌∷◌, Option, Some, None, option_map, is_some}
 use Rattle.lan_core.specs.declared.fact.Fact.{Fact}
-use Rattle.lan_core.specs.declared.fact.Fact.TheVariants.{Life, Ticked, Server, Dropped, Retired, Began, Installed, Untaken, Framed, HeardMka, Claimed, Unclaimed, Arrived}
+use Rattle.lan_core.specs.Run.{place}
+use Rattle.lan_core.specs.TypedFacts.{at_place}
 use Rattle.transcript.specs.Naming.{most_named}
 use Rattle.transcript_reader.specs.declared.form.Form.{Form}
 use Rattle.transcript_reader.specs.declared.form.Form.TheVariants.{OneGroup, TwoGroups}
@@ -39,19 +40,7 @@ parted TwoGroups line = marked line
 
 -- a fact of the second group: its stations have places behind all that can be of the first
 abbrev pub moved : Fact → Fact
-moved (Life s mi) = Life (s + most_named) mi
-moved (Ticked s at next) = Ticked (s + most_named) at next
-moved (Server s mi) = Server (s + most_named) mi
-moved (Dropped s id an) = Dropped (s + most_named) id an
-moved (Retired s id an) = Retired (s + most_named) id an
-moved (Began s id an epoch cause) = Began (s + most_named) id an epoch cause
-moved (Installed s id an epoch sak) = Installed (s + most_named) id an epoch sak
-moved (Untaken s id why) = Untaken (s + most_named) id why
-moved (Framed k s sec octets) = Framed k (s + most_named) sec octets
-moved (HeardMka k s verdict) = HeardMka k (s + most_named) verdict
-moved (Claimed s an epoch pn) = Claimed (s + most_named) an epoch pn
-moved (Unclaimed s why) = Unclaimed (s + most_named) why
-moved (Arrived k s arrival) = Arrived k (s + most_named) arrival
+moved fact = at_place (place fact + most_named) fact
 
 abbrev pub placed : Group → Fact → Fact
 placed First fact = fact

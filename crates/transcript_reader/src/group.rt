@@ -36,21 +36,8 @@ fn go_on(fact: &mut Fact)
     requires { place fact.old < most_named }
     ensures { fact.new ≡ moved fact.old }
 {
-    match fact {
-        Fact::Life { station, .. } => *station += FURTHER,
-        Fact::Ticked { station, .. } => *station += FURTHER,
-        Fact::Server { station, .. } => *station += FURTHER,
-        Fact::Dropped { station, .. } => *station += FURTHER,
-        Fact::Retired { station, .. } => *station += FURTHER,
-        Fact::Began { station, .. } => *station += FURTHER,
-        Fact::Installed { station, .. } => *station += FURTHER,
-        Fact::Untaken { station, .. } => *station += FURTHER,
-        Fact::Framed { station, .. } => *station += FURTHER,
-        Fact::HeardMka { station, .. } => *station += FURTHER,
-        Fact::Claimed { station, .. } => *station += FURTHER,
-        Fact::Unclaimed { station, .. } => *station += FURTHER,
-        Fact::Arrived { station, .. } => *station += FURTHER,
-    }
+    let place = fact.place();
+    fact.move_to(place + FURTHER);
 }
 
 /// The place by which a station is named, whichever group its place is of.
