@@ -11,7 +11,7 @@ use Rattle.rx_slots.specs.Numbers.{answer}
 use Rattle.mka_station.specs.declared.verdict.DropReason.{DropReason}
 use Rattle.mka_station.specs.Lives.{Member, Entry}
 use Rattle.mka_station.specs.Hearing.{judged, hear_turn, heard_turn, frame_turn}
-use Rattle.lan_core.specs.declared.came.Came.{Came}
+use Rattle.lan_core.specs.declared.event_facts.EventFacts.{EventFacts}
 use Rattle.lan_core.specs.declared.event.Event.{Event}
 use Rattle.lan_core.specs.declared.event.Event.TheVariants as events
 use Rattle.lan_core.specs.declared.fact.Fact.{Fact}
@@ -163,52 +163,52 @@ quiet settings users r lan stands e s number octets brings l shown is =
 pub reach-passes : (settings : Settings) (users : List UserFrame) (r : Run) (lan : State)
     → StandsFor settings users lan r → (e : Event) (s number : ℕ) (octets : List ℕ)
     → Brings settings users r e s number octets → (p : Profile) (there : IsThere settings s r lan.seats p)
-    → (new : List Seat) (came : Came) → Reaches settings r s there.seat there.alive number octets lan.seats new came
-    → passed (happened e came.facts ∷ r) ≡ cond (nat_lt most_installs came.installs) (Some Keys) None
+    → (new : List Seat) (event_facts : EventFacts) → Reaches settings r s there.seat there.alive number octets lan.seats new event_facts
+    → passed (happened e event_facts.facts ∷ r) ≡ cond (nat_lt most_installs event_facts.installs) (Some Keys) None
 unfolding air
-reach-passes settings users r lan stands e s number octets brings p there new came reaches =
-    let x = happened e came.facts in
-    let silent : gather framed came.facts (air r) ≡ air r =
+reach-passes settings users r lan stands e s number octets brings p there new event_facts reaches =
+    let x = happened e event_facts.facts in
+    let silent : gather framed event_facts.facts (air r) ≡ air r =
     rw reaches.facts (reached-air settings s r number octets there.alive (air r)) in
     let are = subst (λ fs. AreOf s fs) (sym reaches.facts) (reached-is-of settings s r number octets there.alive) in
-    let count = counted-on r s x are there.seat.installs came.installs there.seated.2 reaches.counted in
+    let count = counted-on r s x are there.seat.installs event_facts.installs there.seated.2 reaches.counted in
     let same = no-station x r brings.starts in
     cc (
-      passed-is (x ∷ r) (length (air r)) (sum (map (λ frame. length frame.octets) (air r))) (ticks r) came.installs
+      passed-is (x ∷ r) (length (air r)) (sum (map (λ frame. length frame.octets) (air r))) (ticks r) event_facts.installs
           (length (stations r)) (rw silent refl) (rw silent refl) (rw brings.ticks (omega arith))
           (rw count (over-of x r s stands.within are)) (ap (λ ps. length ps) same),
-      only-keys r came.installs stands.within,
+      only-keys r event_facts.installs stands.within,
     )
 
 pub reach-stands : (settings : Settings) (users : List UserFrame) (r : Run) (lan : State)
     → StandsFor settings users lan r → (e : Event) (s number : ℕ) (octets : List ℕ)
     → Brings settings users r e s number octets → (p : Profile) → slice_get (stations r) s ≡ Some p
     → (there : IsThere settings s r lan.seats p)
-    → (new : List Seat) (came : Came) → Reaches settings r s there.seat there.alive number octets lan.seats new came
-    → nat_lt most_installs came.installs ≡ false
-    → StandsFor settings users (record lan { seats = new }) (happened e came.facts ∷ r)
+    → (new : List Seat) (event_facts : EventFacts) → Reaches settings r s there.seat there.alive number octets lan.seats new event_facts
+    → nat_lt most_installs event_facts.installs ≡ false
+    → StandsFor settings users (record lan { seats = new }) (happened e event_facts.facts ∷ r)
 unfolding air receiving
-reach-stands settings users r lan stands e s number octets brings p profile there new came reaches few =
-    let x = happened e came.facts in
-    let still = quiet settings users r lan stands e s number octets brings there.alive came.facts reaches.facts in
-    let silent : gather framed came.facts (air r) ≡ air r =
+reach-stands settings users r lan stands e s number octets brings p profile there new event_facts reaches few =
+    let x = happened e event_facts.facts in
+    let still = quiet settings users r lan stands e s number octets brings there.alive event_facts.facts reaches.facts in
+    let silent : gather framed event_facts.facts (air r) ≡ air r =
     rw reaches.facts (reached-air settings s r number octets there.alive (air r)) in
-    let after : receiving s (x ∷ r) ≡ gather (slot_change s) came.facts (heard_data octets (receiving s r)) =
+    let after : receiving s (x ∷ r) ≡ gather (slot_change s) event_facts.facts (heard_data octets (receiving s r)) =
     rw brings.here refl in
-    stands-after settings users r lan stands s x still p (lived_hearing there.alive octets) new came.installs
+    stands-after settings users r lan stands s x still p (lived_hearing there.alive octets) new event_facts.installs
     (record {
       profile = profile;
-      lives = rw (brings.lives s came.facts, brings.here, there.lives) refl;
+      lives = rw (brings.lives s event_facts.facts, brings.here, there.lives) refl;
       setup = hearing_keeps there.alive octets (is_sec octets) refl there.seated.1;
-      moved = subst (λ h. IsMoved settings.window (lived_hearing there.alive octets) h s lan.seats new came.installs)
+      moved = subst (λ h. IsMoved settings.window (lived_hearing there.alive octets) h s lan.seats new event_facts.installs)
           (sym after) reaches.moved;
-      counted = counted-on r s x still.facts there.seat.installs came.installs there.seated.2 reaches.counted;
+      counted = counted-on r s x still.facts there.seat.installs event_facts.installs there.seated.2 reaches.counted;
     })
     lan.air (rw silent stands.on_air) lan.ticks (rw brings.ticks (omega (arith, stands.ticked))) lan.drawn
     (draws-none settings.suite x r lan.drawn
-    (rw reaches.facts (reached-begins-none settings s r number octets there.alive)) (brings.makes came.facts)
+    (rw reaches.facts (reached-begins-none settings s r number octets there.alive)) (brings.makes event_facts.facts)
     stands.drawn)
-    (rw (reach-passes settings users r lan stands e s number octets brings p there new came reaches, few) refl)
+    (rw (reach-passes settings users r lan stands e s number octets brings p there new event_facts reaches, few) refl)
   where
     hearing_keeps : (l : Life) (octets : List ℕ) (b : Bool) → is_sec octets ≡ b
         → l.member.setup ≡ setup_of settings p → (lived_hearing l octets).member.setup ≡ setup_of settings p
@@ -219,20 +219,20 @@ reach-stands settings users r lan stands e s number octets brings p profile ther
 pub reach-stops : (settings : Settings) (users : List UserFrame) (r : Run) (lan : State)
     → StandsFor settings users lan r → (e : Event) (s number : ℕ) (octets : List ℕ)
     → Brings settings users r e s number octets → (p : Profile) (there : IsThere settings s r lan.seats p)
-    → (new : List Seat) (came : Came) → Reaches settings r s there.seat there.alive number octets lan.seats new came
+    → (new : List Seat) (event_facts : EventFacts) → Reaches settings r s there.seat there.alive number octets lan.seats new event_facts
     → (nth : ℕ → Option (List ℕ))
     → first_stop settings users r e nth
-    ≡ option_or (cond (nat_lt most_installs came.installs) (Some (Limit Keys)) None) (stop_of_forgery settings r e)
-reach-stops settings users r lan stands e s number octets brings p there new came reaches nth =
-    let shows : expected settings users r e (drawn_from settings.suite nth) ≡ Some came.facts =
+    ≡ option_or (cond (nat_lt most_installs event_facts.installs) (Some (Limit Keys)) None) (stop_of_forgery settings r e)
+reach-stops settings users r lan stands e s number octets brings p there new event_facts reaches nth =
+    let shows : expected settings users r e (drawn_from settings.suite nth) ≡ Some event_facts.facts =
     rw reaches.facts (brings.shows there.alive (drawn_from settings.suite nth) there.lives) in
     rw (
-      meets settings users r e nth came.facts (rw brings.needs refl) shows,
-      reach-passes settings users r lan stands e s number octets brings p there new came reaches,
-      brings.makes came.facts,
+      meets settings users r e nth event_facts.facts (rw brings.needs refl) shows,
+      reach-passes settings users r lan stands e s number octets brings p there new event_facts reaches,
+      brings.makes event_facts.facts,
       subst (λ fs. drawn_mi fs ≡ None) (sym reaches.facts) (reached-begins-none settings s r number octets there.alive),
     )
-    (go (nat_lt most_installs came.installs))
+    (go (nat_lt most_installs event_facts.installs))
   where
     go : (b : Bool) → option_or (option_map Limit (cond b (Some Keys) None)) (stop_of_forgery settings r e)
         ≡ option_or (cond b (Some (Limit Keys)) None) (stop_of_forgery settings r e)
@@ -243,18 +243,18 @@ pub reach-goes-on : (settings : Settings) (users : List UserFrame) (r : Run) (la
     → StandsFor settings users lan r → (e : Event) (s number : ℕ) (octets : List ℕ)
     → Brings settings users r e s number octets → (p : Profile) → slice_get (stations r) s ≡ Some p
     → (there : IsThere settings s r lan.seats p)
-    → (new : List Seat) (came : Came) → Reaches settings r s there.seat there.alive number octets lan.seats new came
+    → (new : List Seat) (event_facts : EventFacts) → Reaches settings r s there.seat there.alive number octets lan.seats new event_facts
     → (nth : ℕ → Option (List ℕ))
-    → cond (nat_lt most_installs came.installs) (Some (Limit Keys)) None ≡ None
+    → cond (nat_lt most_installs event_facts.installs) (Some (Limit Keys)) None ≡ None
     → stop_of_forgery settings r e ≡ None
-    → GoesOn settings users r e nth nth (record lan { seats = new }) came.facts
-reach-goes-on settings users r lan stands e s number octets brings p profile there new came reaches nth few right =
+    → GoesOn settings users r e nth nth (record lan { seats = new }) event_facts.facts
+reach-goes-on settings users r lan stands e s number octets brings p profile there new event_facts reaches nth few right =
     record {
-      goes = rw (reach-stops settings users r lan stands e s number octets brings p there new came reaches nth, few, right)
+      goes = rw (reach-stops settings users r lan stands e s number octets brings p there new event_facts reaches nth, few, right)
           refl;
       shows = rw reaches.facts (brings.shows there.alive (drawn_from settings.suite nth) there.lives);
-      stands = reach-stands settings users r lan stands e s number octets brings p profile there new came reaches
-          (not_over (nat_lt most_installs came.installs) few);
+      stands = reach-stands settings users r lan stands e s number octets brings p profile there new event_facts reaches
+          (not_over (nat_lt most_installs event_facts.installs) few);
       drawn = λ k. rw brings.needs (ap nth (omega arith));
     }
   where

@@ -11,7 +11,7 @@ use Rattle.sak_exchange.specs.Histories.{install_count}
 use Rattle.mka_station.specs.Lives.{keys_of}
 use Rattle.mka_station.specs.Restart.{ending}
 use Rattle.mka_station.specs.Standing.{drawn_mi as mi_of_draw, reborn}
-use Rattle.lan_core.specs.declared.came.Came.{Came}
+use Rattle.lan_core.specs.declared.event_facts.EventFacts.{EventFacts}
 use Rattle.lan_core.specs.declared.event.Event.{Event}
 use Rattle.lan_core.specs.declared.event.Event.TheVariants as events
 use Rattle.lan_core.specs.declared.fact.Fact.{Fact}
@@ -148,48 +148,48 @@ restart-stops settings users r lan stands s l draw nth lives drawn =
 
 pub restart-stands : (settings : Settings) (users : List UserFrame) (r : Run) (lan : State)
     → StandsFor settings users lan r → (s : ℕ) (p : Profile) → slice_get (stations r) s ≡ Some p
-    → (there : IsThere settings s r lan.seats p) → (draw : List ℕ) (new : List Seat) (came : Came)
-    → Restarts settings r s there.seat there.alive draw lan.seats new came
+    → (there : IsThere settings s r lan.seats p) → (draw : List ℕ) (new : List Seat) (event_facts : EventFacts)
+    → Restarts settings r s there.seat there.alive draw lan.seats new event_facts
     → (drawn : Numbers) → MiIsNoted lan.drawn drawn (mi_of_draw draw)
-    → StandsFor settings users (record lan { seats = new; drawn = drawn }) (restarting s came.facts ∷ r)
+    → StandsFor settings users (record lan { seats = new; drawn = drawn }) (restarting s event_facts.facts ∷ r)
 unfolding air life receiving
-restart-stands settings users r lan stands s p profile there draw new came did drawn noted =
-    let x = restarting s came.facts in
+restart-stands settings users r lan stands s p profile there draw new event_facts did drawn noted =
+    let x = restarting s event_facts.facts in
     let l = there.alive in
     let mi = mi_of_draw draw in
-    let still = quiet settings users r lan stands s mi l came.facts did.facts in
-    let silent : gather framed came.facts (air r) ≡ air r = rw did.facts (restart-air s mi l (air r)) in
-    let shows : drawn_mi came.facts ≡ Some mi = subst (λ fs. drawn_mi fs ≡ Some mi) (sym did.facts) refl in
+    let still = quiet settings users r lan stands s mi l event_facts.facts did.facts in
+    let silent : gather framed event_facts.facts (air r) ≡ air r = rw did.facts (restart-air s mi l (air r)) in
+    let shows : drawn_mi event_facts.facts ≡ Some mi = subst (λ fs. drawn_mi fs ≡ Some mi) (sym did.facts) refl in
     let begun : Life = record { member = record { setup = setup_of settings p; mi = mi; base = length (installs_at s r) }; past = [] } in
     let setup : setup_of settings p ≡ l.member.setup = sym there.seated.1 in
     let base : length (installs_at s r) ≡ l.member.base + install_count (keys_of l.member l.past) =
     omega (arith, there.seated.2, there.seated.0.installs) in
     let same : record { member = reborn l.member l.past draw; past = [] } ≡ begun =
     (λ i. record { member = record { setup = (sym setup) i; mi = mi; base = (sym base) i }; past = [] }) in
-    stands-after settings users r lan stands s x still p begun new came.installs
+    stands-after settings users r lan stands s x still p begun new event_facts.installs
     (record {
       profile = profile;
       lives = rw (same-place s, profile, shows) refl;
       setup = refl;
-      moved = subst (λ (l : Life). IsMoved settings.window l (gather (slot_change s) came.facts (receiving s r)) s lan.seats new came.installs) same did.moved;
-      counted = counted-on r s x still.facts there.seat.installs came.installs there.seated.2 did.counted;
+      moved = subst (λ (l : Life). IsMoved settings.window l (gather (slot_change s) event_facts.facts (receiving s r)) s lan.seats new event_facts.installs) same did.moved;
+      counted = counted-on r s x still.facts there.seat.installs event_facts.installs there.seated.2 did.counted;
     })
     lan.air (rw silent stands.on_air) lan.ticks (omega (arith, stands.ticked)) drawn
     (mi-noted settings.suite r lan.drawn drawn x mi stands.drawn shows refl noted)
-    (restart-passes r stands.within s mi l came.facts did.facts)
+    (restart-passes r stands.within s mi l event_facts.facts did.facts)
 
 pub restart-goes-on : (settings : Settings) (users : List UserFrame) (r : Run) (lan : State)
     → StandsFor settings users lan r → (s : ℕ) (p : Profile) → slice_get (stations r) s ≡ Some p
-    → (there : IsThere settings s r lan.seats p) → (draw : List ℕ) (new : List Seat) (came : Came)
-    → Restarts settings r s there.seat there.alive draw lan.seats new came
+    → (there : IsThere settings s r lan.seats p) → (draw : List ℕ) (new : List Seat) (event_facts : EventFacts)
+    → Restarts settings r s there.seat there.alive draw lan.seats new event_facts
     → (nth after : ℕ → Option (List ℕ)) → nth 0 ≡ Some draw → ((k : ℕ) → after k ≡ nth (k + 1))
     → stop_of lan.drawn (number_of_mi lan.drawn (mi_of_draw draw)) ≡ None
     → (drawn : Numbers) → MiIsNoted lan.drawn drawn (mi_of_draw draw)
-    → GoesOn settings users r (events.Restart s) nth after (record lan { seats = new; drawn = drawn }) came.facts
-restart-goes-on settings users r lan stands s p profile there draw new came did nth after first taken goes drawn noted =
+    → GoesOn settings users r (events.Restart s) nth after (record lan { seats = new; drawn = drawn }) event_facts.facts
+restart-goes-on settings users r lan stands s p profile there draw new event_facts did nth after first taken goes drawn noted =
     record {
       goes = rw (restart-stops settings users r lan stands s there.alive draw nth there.lives first) goes;
       shows = rw did.facts (restart-expected settings users r s there.alive draw nth there.lives first);
-      stands = restart-stands settings users r lan stands s p profile there draw new came did drawn noted;
+      stands = restart-stands settings users r lan stands s p profile there draw new event_facts did drawn noted;
       drawn = taken;
     }

@@ -15,7 +15,7 @@ use Rattle.aes_block.specs.declared.secret.Secret.TheVariants.{S128, S256}
 use Rattle.sak_exchange.specs.Held.{ends}
 use Rattle.mka_station.specs.Tick.{Turn}
 use Rattle.mka_station.specs.Drawing.{next_sak, sak_of, makes_next, is_short}
-use Rattle.lan_core.specs.declared.came.Came.{Came}
+use Rattle.lan_core.specs.declared.event_facts.EventFacts.{EventFacts}
 use Rattle.lan_core.specs.declared.event.Event.TheVariants as events
 use Rattle.lan_core.specs.declared.fact.Fact.TheVariants as facts
 use Rattle.lan_core.specs.declared.settings.Settings.{Settings}
@@ -147,36 +147,36 @@ pub tick-expected : (settings : Settings) (users : List UserFrame) (r : Run) (s 
 unfolding expected
 tick-expected settings users r s next l p nth lives setup = rw (lives, suite-is settings l p setup) refl
 
-abbrev pub ticking : ℕ → ℕ → Came → Happening
-ticking s next came = happened (events.Tick s next) came.facts
+abbrev pub ticking : ℕ → ℕ → EventFacts → Happening
+ticking s next event_facts = happened (events.Tick s next) event_facts.facts
 
 pub tick-passes : (settings : Settings) (users : List UserFrame) (r : Run) (lan : State)
     → StandsFor settings users lan r → (s next : ℕ) (p : Profile) (there : IsThere settings s r lan.seats p)
-    → (nth after : ℕ → Option (List ℕ)) (new : List Seat) (came : Came)
-    → Ticks settings r s there.seat there.alive next nth after lan.seats new came
-    → passed (ticking s next came ∷ r)
-    ≡ passed_with (lan.air ++ option_to_list (sent_in came.facts)) (lan.ticks + 1) came.installs (length lan.names)
+    → (nth after : ℕ → Option (List ℕ)) (new : List Seat) (event_facts : EventFacts)
+    → Ticks settings r s there.seat there.alive next nth after lan.seats new event_facts
+    → passed (ticking s next event_facts ∷ r)
+    ≡ passed_with (lan.air ++ option_to_list (sent_in event_facts.facts)) (lan.ticks + 1) event_facts.installs (length lan.names)
 unfolding air stations
-tick-passes settings users r lan stands s next p there nth after new came did =
-    let x = ticking s next came in
+tick-passes settings users r lan stands s next p there nth after new event_facts did =
+    let x = ticking s next event_facts in
     let sak = sak_of there.alive.member.setup.suite nth in
     let are = subst (λ fs. AreOf s fs) (sym did.facts) (tick-is-of settings s r next sak there.alive) in
-    let count = counted-on r s x are there.seat.installs came.installs there.seated.2 did.counted in
-    let on : in_order (gather framed came.facts (air r)) ≡ in_order (air r) ++ option_to_list (sent_in came.facts) =
+    let count = counted-on r s x are there.seat.installs event_facts.installs there.seated.2 did.counted in
+    let on : in_order (gather framed event_facts.facts (air r)) ≡ in_order (air r) ++ option_to_list (sent_in event_facts.facts) =
     subst (λ fs. in_order (gather framed fs (air r)) ≡ in_order (air r) ++ option_to_list (sent_in fs)) (sym did.facts)
     (tick-air settings s r next sak there.alive (air r)) in
-    let put : lan.air ++ option_to_list (sent_in came.facts) ≡ in_order (gather framed came.facts (air r)) =
+    let put : lan.air ++ option_to_list (sent_in event_facts.facts) ≡ in_order (gather framed event_facts.facts (air r)) =
     rw stands.on_air (sym on) in
     let named : length lan.names ≡ length (stations r) =
     rw stands.names (length-map (stations r) (λ p. p.name)) in
     rw (
       put,
-      order-length (gather framed came.facts (air r)),
-      order-sum (gather framed came.facts (air r)),
+      order-length (gather framed event_facts.facts (air r)),
+      order-sum (gather framed event_facts.facts (air r)),
       named,
       stands.ticked,
     )
-    (passed-is (x ∷ r) _ _ (ticks r + 1) came.installs (length (stations r)) refl refl (omega arith)
+    (passed-is (x ∷ r) _ _ (ticks r + 1) event_facts.installs (length (stations r)) refl refl (omega arith)
     (rw count (over-of x r s stands.within are)) (ap (λ ps. length ps) (append-nil (stations r))))
 
 draw-stop : (suite : Suite) (r : Run) (drawn : Numbers) → AreDrawn suite r drawn → (sak : Option Secret)
@@ -187,29 +187,29 @@ draw-stop suite r drawn are (Some sak) = rw (are.saks sak, are.count) refl
 
 pub tick-stops : (settings : Settings) (users : List UserFrame) (r : Run) (lan : State)
     → StandsFor settings users lan r → (s next : ℕ) (p : Profile) (there : IsThere settings s r lan.seats p)
-    → (nth after : ℕ → Option (List ℕ)) (new : List Seat) (came : Came)
-    → Ticks settings r s there.seat there.alive next nth after lan.seats new came
+    → (nth after : ℕ → Option (List ℕ)) (new : List Seat) (event_facts : EventFacts)
+    → Ticks settings r s there.seat there.alive next nth after lan.seats new event_facts
     → first_stop settings users r (events.Tick s next) nth
-    ≡ option_or (option_map Limit (passed_with (lan.air ++ option_to_list (sent_in came.facts)) (lan.ticks + 1)
-    came.installs (length lan.names)))
-    (stop_of lan.drawn (option_and_then (number_of_sak lan.drawn) (drawn_sak came.facts)))
-tick-stops settings users r lan stands s next p there nth after new came did =
+    ≡ option_or (option_map Limit (passed_with (lan.air ++ option_to_list (sent_in event_facts.facts)) (lan.ticks + 1)
+    event_facts.installs (length lan.names)))
+    (stop_of lan.drawn (option_and_then (number_of_sak lan.drawn) (drawn_sak event_facts.facts)))
+tick-stops settings users r lan stands s next p there nth after new event_facts did =
     let l = there.alive in
     let sak = sak_of l.member.setup.suite nth in
     let enough : is_spent (draws_needed settings r (events.Tick s next)) nth ≡ false =
     rw there.lives (enough-draws l.member.setup.suite (makes_next l.member l.past (seen_at settings s r l next)) nth did.enough) in
-    let shows : expected settings users r (events.Tick s next) (drawn_from settings.suite nth) ≡ Some came.facts =
+    let shows : expected settings users r (events.Tick s next) (drawn_from settings.suite nth) ≡ Some event_facts.facts =
     rw did.facts (tick-expected settings users r s next l p nth there.lives there.seated.1) in
-    let none : drawn_mi came.facts ≡ None =
+    let none : drawn_mi event_facts.facts ≡ None =
     subst (λ fs. drawn_mi fs ≡ None) (sym did.facts) (tick-began settings s r next sak l) in
     rw (
-      meets settings users r (events.Tick s next) nth came.facts enough shows,
-      tick-passes settings users r lan stands s next p there nth after new came did,
+      meets settings users r (events.Tick s next) nth event_facts.facts enough shows,
+      tick-passes settings users r lan stands s next p there nth after new event_facts did,
       none,
-      draw-stop settings.suite r lan.drawn stands.drawn (drawn_sak came.facts),
+      draw-stop settings.suite r lan.drawn stands.drawn (drawn_sak event_facts.facts),
     )
-    (or_none (option_map Limit (passed_with (lan.air ++ option_to_list (sent_in came.facts)) (lan.ticks + 1)
-    came.installs (length lan.names))) (stop_of lan.drawn (option_and_then (number_of_sak lan.drawn) (drawn_sak came.facts))))
+    (or_none (option_map Limit (passed_with (lan.air ++ option_to_list (sent_in event_facts.facts)) (lan.ticks + 1)
+    event_facts.installs (length lan.names))) (stop_of lan.drawn (option_and_then (number_of_sak lan.drawn) (drawn_sak event_facts.facts))))
   where
     or_none : (a b : Option Stop) → option_or a (option_or b None) ≡ option_or a b
     or_none None None = refl
@@ -244,32 +244,32 @@ tick-noted suite r old new x are none (Some sak) is noted = record {
 pub tick-stands : (settings : Settings) (users : List UserFrame) (r : Run) (lan : State)
     → StandsFor settings users lan r → (s next : ℕ) (p : Profile) → slice_get (stations r) s ≡ Some p
     → (there : IsThere settings s r lan.seats p)
-    → (nth after : ℕ → Option (List ℕ)) (new : List Seat) (came : Came)
-    → Ticks settings r s there.seat there.alive next nth after lan.seats new came
-    → option_map Limit (passed_with (lan.air ++ option_to_list (sent_in came.facts)) (lan.ticks + 1) came.installs
+    → (nth after : ℕ → Option (List ℕ)) (new : List Seat) (event_facts : EventFacts)
+    → Ticks settings r s there.seat there.alive next nth after lan.seats new event_facts
+    → option_map Limit (passed_with (lan.air ++ option_to_list (sent_in event_facts.facts)) (lan.ticks + 1) event_facts.installs
     (length lan.names)) ≡ None
-    → (drawn : Numbers) → IfNoted (sak_draws settings.suite) lan.drawn drawn (drawn_sak came.facts)
+    → (drawn : Numbers) → IfNoted (sak_draws settings.suite) lan.drawn drawn (drawn_sak event_facts.facts)
     → StandsFor settings users (record lan {
-      air = lan.air ++ option_to_list (sent_in came.facts);
+      air = lan.air ++ option_to_list (sent_in event_facts.facts);
       seats = new;
       ticks = lan.ticks + 1;
       drawn = drawn;
-    }) (ticking s next came ∷ r)
+    }) (ticking s next event_facts ∷ r)
 unfolding air life receiving
-tick-stands settings users r lan stands s next p profile there nth after new came did within drawn noted =
-    let x = ticking s next came in
+tick-stands settings users r lan stands s next p profile there nth after new event_facts did within drawn noted =
+    let x = ticking s next event_facts in
     let l = there.alive in
     let sak = sak_of l.member.setup.suite nth in
-    let told : came.facts ≡ tick_facts settings s r next sak l = did.facts in
+    let told : event_facts.facts ≡ tick_facts settings s r next sak l = did.facts in
     let are = subst (λ fs. AreOf s fs) (sym told) (tick-is-of settings s r next sak l) in
-    let none : drawn_mi came.facts ≡ None =
+    let none : drawn_mi event_facts.facts ≡ None =
     subst (λ fs. drawn_mi fs ≡ None) (sym told) (tick-began settings s r next sak l) in
-    let on : in_order (gather framed came.facts (air r)) ≡ in_order (air r) ++ option_to_list (sent_in came.facts) =
+    let on : in_order (gather framed event_facts.facts (air r)) ≡ in_order (air r) ++ option_to_list (sent_in event_facts.facts) =
     subst (λ fs. in_order (gather framed fs (air r)) ≡ in_order (air r) ++ option_to_list (sent_in fs)) (sym told)
     (tick-air settings s r next sak l (air r)) in
-    let shows : expected settings users r (events.Tick s next) (drawn_from settings.suite nth) ≡ Some came.facts =
+    let shows : expected settings users r (events.Tick s next) (drawn_from settings.suite nth) ≡ Some event_facts.facts =
     rw told (tick-expected settings users r s next l p nth there.lives there.seated.1) in
-    let lived : lived_ticking settings s r next (sak_in came.facts) l ≡ lived_ticking settings s r next sak l =
+    let lived : lived_ticking settings s r next (sak_in event_facts.facts) l ≡ lived_ticking settings s r next sak l =
     subst (λ fs. lived_ticking settings s r next (sak_in fs) l ≡ lived_ticking settings s r next sak l) (sym told)
     (same-lived settings s r next sak l) in
     stands-after settings users r lan stands s x
@@ -281,41 +281,41 @@ tick-stands settings users r lan stands s next p profile there nth after new cam
       facts = are;
       emits = subst (λ fs. filter (λ f. f.sec) (gather framed fs (air r)) ≡ filter (λ f. f.sec) (air r)) (sym told)
           (tick-emits settings s r next sak l (air r));
-      numbers = by_event settings users r (events.Tick s next) (drawn_from settings.suite nth) came.facts shows stands.numbered;
+      numbers = by_event settings users r (events.Tick s next) (drawn_from settings.suite nth) event_facts.facts shows stands.numbered;
     })
-    p (lived_ticking settings s r next sak l) new came.installs
+    p (lived_ticking settings s r next sak l) new event_facts.installs
     (record {
       profile = profile;
       lives = rw (same-place s, there.lives, lived) refl;
       setup = there.seated.1;
       moved = did.moved;
-      counted = counted-on r s x are there.seat.installs came.installs there.seated.2 did.counted;
+      counted = counted-on r s x are there.seat.installs event_facts.installs there.seated.2 did.counted;
     })
-    (lan.air ++ option_to_list (sent_in came.facts)) (rw stands.on_air (sym on)) (lan.ticks + 1)
+    (lan.air ++ option_to_list (sent_in event_facts.facts)) (rw stands.on_air (sym on)) (lan.ticks + 1)
     (omega (arith, stands.ticked)) drawn
-    (tick-noted settings.suite r lan.drawn drawn x stands.drawn none (drawn_sak came.facts) refl noted)
-    (none-passed (ticking s next came ∷ r) _ (tick-passes settings users r lan stands s next p there nth after new came did) within)
+    (tick-noted settings.suite r lan.drawn drawn x stands.drawn none (drawn_sak event_facts.facts) refl noted)
+    (none-passed (ticking s next event_facts ∷ r) _ (tick-passes settings users r lan stands s next p there nth after new event_facts did) within)
 
 pub tick-goes-on : (settings : Settings) (users : List UserFrame) (r : Run) (lan : State)
     → StandsFor settings users lan r → (s next : ℕ) (p : Profile) → slice_get (stations r) s ≡ Some p
     → (there : IsThere settings s r lan.seats p)
-    → (nth after : ℕ → Option (List ℕ)) (new : List Seat) (came : Came)
-    → Ticks settings r s there.seat there.alive next nth after lan.seats new came
-    → option_or (option_map Limit (passed_with (lan.air ++ option_to_list (sent_in came.facts)) (lan.ticks + 1)
-    came.installs (length lan.names)))
-    (stop_of lan.drawn (option_and_then (number_of_sak lan.drawn) (drawn_sak came.facts))) ≡ None
-    → (drawn : Numbers) → IfNoted (sak_draws settings.suite) lan.drawn drawn (drawn_sak came.facts)
+    → (nth after : ℕ → Option (List ℕ)) (new : List Seat) (event_facts : EventFacts)
+    → Ticks settings r s there.seat there.alive next nth after lan.seats new event_facts
+    → option_or (option_map Limit (passed_with (lan.air ++ option_to_list (sent_in event_facts.facts)) (lan.ticks + 1)
+    event_facts.installs (length lan.names)))
+    (stop_of lan.drawn (option_and_then (number_of_sak lan.drawn) (drawn_sak event_facts.facts))) ≡ None
+    → (drawn : Numbers) → IfNoted (sak_draws settings.suite) lan.drawn drawn (drawn_sak event_facts.facts)
     → GoesOn settings users r (events.Tick s next) nth after (record lan {
-      air = lan.air ++ option_to_list (sent_in came.facts);
+      air = lan.air ++ option_to_list (sent_in event_facts.facts);
       seats = new;
       ticks = lan.ticks + 1;
       drawn = drawn;
-    }) came.facts
-tick-goes-on settings users r lan stands s next p profile there nth after new came did goes drawn noted =
+    }) event_facts.facts
+tick-goes-on settings users r lan stands s next p profile there nth after new event_facts did goes drawn noted =
     record {
-      goes = rw (tick-stops settings users r lan stands s next p there nth after new came did) goes;
+      goes = rw (tick-stops settings users r lan stands s next p there nth after new event_facts did) goes;
       shows = rw did.facts (tick-expected settings users r s next there.alive p nth there.lives there.seated.1);
-      stands = tick-stands settings users r lan stands s next p profile there nth after new came did
+      stands = tick-stands settings users r lan stands s next p profile there nth after new event_facts did
           (first_none _ _ goes) drawn noted;
       drawn = λ k. rw there.lives (did.drawn k);
     }

@@ -170,7 +170,7 @@ impl Lan {
             → Answers settings users r (events.Deliver number station) nth nth self.new result }
 
         // No admission changes the air or a name. Where one fails the group is stopped, and answers
-        // the same from then on.
+        // that error from then on.
         ensures shown { (self.new.air ≡ self.old.air) × (self.new.names ≡ self.old.names) }
         ensures stopped { IfErr result (λ error. self.new.stopped ≡ Some error) }
         ensures again { IfSome self.old.stopped

@@ -1,15 +1,18 @@
 //! The group as a whole: its events, the facts that each event shows, and what a legal run of them
 //! is.
+//!
+//! Read first `Lan`, which has a call for each `Event` and answers the `Facts` that it shows, or a
+//! `Stop`; in `specs/`, `Run`, `Lives`, `Expected` for what an event shows, and `Legal`.
 #![tactic(auto)]
 
 mod air;
-mod came;
 mod check_value;
 mod checks;
 mod claimed;
 mod draw_laws;
 mod drawn;
 mod event;
+mod event_facts;
 mod fact;
 mod fact_laws;
 mod following;

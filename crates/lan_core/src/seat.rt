@@ -488,8 +488,8 @@ impl Seat {
         }
     }
 
-    /// The same, where the key has to be prepared first. A prepared key is large: this keeps the
-    /// room for it out of those who call this seldom.
+    /// The frame of a user, protected under a key that has to be prepared first. A prepared key is
+    /// large: this keeps the room for it out of those who call this seldom.
     #[inline(never)]
     fn first_protected(
         &mut self,

@@ -19,8 +19,8 @@ ghost use Rattle.lan_core.specs.Batches.{checked_at};
 ghost use Rattle.lan_core.specs.inside.Judge.{IsOf};
 ghost use Rattle.lan_core.specs.inside.Seats.{Claims, IsFew, IsPast, Ticks, Reaches, Restarts};
 
-use crate::came::Came;
 use crate::claimed::Claimed;
+use crate::event_facts::EventFacts;
 use crate::judge::Judge;
 use crate::seat::Seat;
 use crate::stop::Stop;
@@ -97,12 +97,12 @@ impl Seats {
         number: u32,
         next: u64,
         draws: &mut D,
-    ) -> Result<Option<Came>, TickError>
+    ) -> Result<Option<EventFacts>, TickError>
         requires { IfSome (slice_get self.old place) IsFew }
-        ensures came { (settings : Settings) (r : Run) (seat : Seat) (l : Life)
+        ensures event_facts { (settings : Settings) (r : Run) (seat : Seat) (l : Life)
             → slice_get self.old place ≡ Some seat → Sits settings.window l (receiving place r) seat
             → number ≡ next_frame r
-            → IfOk result (λ came. IsSomeAnd came (Ticks settings r place seat l next
+            → IfOk result (λ event_facts. IsSomeAnd event_facts (Ticks settings r place seat l next
             (D.nth draws.old) (D.nth draws.new)
             self.old self.new)) }
         ensures spent { (settings : Settings) (r : Run) (seat : Seat) (l : Life)
@@ -120,7 +120,7 @@ impl Seats {
             Err(fault) => return Err(fault),
         };
         let installs = seat.installs();
-        Ok(Some(Came { facts, installs }))
+        Ok(Some(EventFacts { facts, installs }))
     }
 
     /// A frame of this number, or foreign octets under the number 0, reach a station, if it is
@@ -131,13 +131,13 @@ impl Seats {
         number: u32,
         octets: &[u8],
         judge: &mut Judge,
-    ) -> Result<Option<Came>, AllocError>
+    ) -> Result<Option<EventFacts>, AllocError>
         requires light { length octets.now ≤ most_octets }
         requires few { IfSome (slice_get self.old place) IsFew }
-        ensures came { (settings : Settings) (r : Run) (seat : Seat) (l : Life)
+        ensures event_facts { (settings : Settings) (r : Run) (seat : Seat) (l : Life)
             → slice_get self.old place ≡ Some seat → Sits settings.window l (receiving place r) seat
             → IsOf judge.old.settings l.member.setup
-            → IfOk result (λ came. IsSomeAnd came
+            → IfOk result (λ event_facts. IsSomeAnd event_facts
             (Reaches settings r place seat l number octets.now self.old self.new)) }
         ensures kept { judge.new.settings ≡ judge.old.settings }
     {
@@ -146,7 +146,7 @@ impl Seats {
         };
         let facts = seat.reach(place, number, octets, judge)?;
         let installs = seat.installs();
-        Ok(Some(Came { facts, installs }))
+        Ok(Some(EventFacts { facts, installs }))
     }
 
     /// A protected frame of this number reaches a station, if it is there, and was answered as far
@@ -156,12 +156,12 @@ impl Seats {
         place: u8,
         number: u32,
         checked: Checked,
-    ) -> Result<Option<Came>, AllocError>
+    ) -> Result<Option<EventFacts>, AllocError>
         ensures { (settings : Settings) (r : Run) (seat : Seat) (l : Life) (octets : List ℕ)
             → slice_get self.old place ≡ Some seat → Sits settings.window l (receiving place r) seat
             → is_sec octets ≡ true
             → checked ≡ checked_at place r l.member.setup.sci octets
-            → IfOk result (λ came. IsSomeAnd came
+            → IfOk result (λ event_facts. IsSomeAnd event_facts
             (Reaches settings r place seat l number octets self.old self.new)) }
     {
         let Some(seat) = self.seats.get_mut(place as usize) else {
@@ -169,14 +169,14 @@ impl Seats {
         };
         let facts = seat.admit(place, number, checked)?;
         let installs = seat.installs();
-        Ok(Some(Came { facts, installs }))
+        Ok(Some(EventFacts { facts, installs }))
     }
 
     /// A station starts again, if it is there.
-    pub fn restart(&mut self, place: u8, draw: [u8; 16]) -> Result<Option<Came>, AllocError>
+    pub fn restart(&mut self, place: u8, draw: [u8; 16]) -> Result<Option<EventFacts>, AllocError>
         ensures { (settings : Settings) (r : Run) (seat : Seat) (l : Life)
             → slice_get self.old place ≡ Some seat → Sits settings.window l (receiving place r) seat
-            → IfOk result (λ came. IsSomeAnd came
+            → IfOk result (λ event_facts. IsSomeAnd event_facts
             (Restarts settings r place seat l draw self.old self.new)) }
     {
         let Some(seat) = self.seats.get_mut(place as usize) else {
@@ -184,7 +184,7 @@ impl Seats {
         };
         let facts = seat.restart(place, draw)?;
         let installs = seat.installs();
-        Ok(Some(Came { facts, installs }))
+        Ok(Some(EventFacts { facts, installs }))
     }
 
     /// What a claim of a packet number comes to at a station, if it is there, with its user frame.

@@ -8,7 +8,7 @@ use Rattle.sak_exchange.specs.Held.{held, transmitting}
 use Rattle.rx_slots.specs.Histories.{Receiving}
 use Rattle.mka_station.specs.Drawing.{sak_of, is_short, draws_at}
 use Rattle.mka_station.specs.Standing.{drawn_mi, reborn}
-use Rattle.lan_core.specs.declared.came.Came.{Came}
+use Rattle.lan_core.specs.declared.event_facts.EventFacts.{EventFacts}
 use Rattle.lan_core.specs.declared.claimed.Claimed.{Claimed}
 use Rattle.lan_core.specs.declared.fact.Fact.{Fact}
 use Rattle.lan_core.specs.declared.fact.Fact.TheVariants as facts
@@ -48,12 +48,12 @@ pub record IsMoved (window : ℕ) (l : Life) (h : List Receiving) (s : ℕ) (old
 -- a tick at a station
 pub record Ticks (settings : Settings) (r : Run) (s : ℕ) (seat : Seat) (l : Life) (next : ℕ)
     (before after : ℕ → Option (List ℕ))
-    (old new : List Seat) (came : Came) : Type 0 where
-  pub facts : came.facts ≡ tick_facts settings s r next (sak_of l.member.setup.suite before) l
-  pub counted : came.installs ≡ seat.installs + installs_in came.facts
+    (old new : List Seat) (event_facts : EventFacts) : Type 0 where
+  pub facts : event_facts.facts ≡ tick_facts settings s r next (sak_of l.member.setup.suite before) l
+  pub counted : event_facts.installs ≡ seat.installs + installs_in event_facts.facts
   pub moved : IsMoved settings.window (lived_ticking settings s r next
       (sak_of l.member.setup.suite before) l)
-      (gather (slot_change s) came.facts (receiving s r)) s old new came.installs
+      (gather (slot_change s) event_facts.facts (receiving s r)) s old new event_facts.installs
   pub enough : is_short l.member l.past (seen_at settings s r l next) before ≡ false
   pub drawn : (k : ℕ) → after k ≡ before (k
       + draws_at l.member l.past (seen_at settings s r l next))
@@ -61,21 +61,21 @@ pub record Ticks (settings : Settings) (r : Run) (s : ℕ) (seat : Seat) (l : Li
 -- octets reach a station
 pub record Reaches (settings : Settings) (r : Run) (s : ℕ) (seat : Seat) (l : Life) (number : ℕ)
     (octets : List ℕ)
-    (old new : List Seat) (came : Came) : Type 0 where
-  pub facts : came.facts ≡ reached_facts settings s r number octets l
-  pub counted : came.installs ≡ seat.installs + installs_in came.facts
+    (old new : List Seat) (event_facts : EventFacts) : Type 0 where
+  pub facts : event_facts.facts ≡ reached_facts settings s r number octets l
+  pub counted : event_facts.installs ≡ seat.installs + installs_in event_facts.facts
   pub moved : IsMoved settings.window (lived_hearing l octets)
-      (gather (slot_change s) came.facts (heard_data octets
-      (receiving s r))) s old new came.installs
+      (gather (slot_change s) event_facts.facts (heard_data octets
+      (receiving s r))) s old new event_facts.installs
 
 -- a station starts again
 pub record Restarts (settings : Settings) (r : Run) (s : ℕ) (seat : Seat) (l : Life) (draw : List ℕ)
     (old new : List Seat)
-    (came : Came) : Type 0 where
-  pub facts : came.facts ≡ restart_facts s (drawn_mi draw) l
-  pub counted : came.installs ≡ seat.installs + installs_in came.facts
+    (event_facts : EventFacts) : Type 0 where
+  pub facts : event_facts.facts ≡ restart_facts s (drawn_mi draw) l
+  pub counted : event_facts.installs ≡ seat.installs + installs_in event_facts.facts
   pub moved : IsMoved settings.window (record { member = reborn l.member l.past draw; past = [] })
-      (gather (slot_change s) came.facts (receiving s r)) s old new came.installs
+      (gather (slot_change s) event_facts.facts (receiving s r)) s old new event_facts.installs
 
 -- a claim of a packet number at a station, with this user frame: the key that transmits, and, where
 -- there is a number, the frame that it protects

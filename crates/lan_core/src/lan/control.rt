@@ -23,7 +23,7 @@ ghost use Rattle.lan_core.specs.inside.Shown.{sent_in};
 
 use super::Lan;
 use super::stopping::{note_mi, note_sak};
-use crate::came::Came;
+use crate::event_facts::EventFacts;
 use crate::fact::{Fact, Facts};
 use crate::limits::STATIONS_MAX;
 use crate::seat::Seat;
@@ -80,36 +80,36 @@ impl Lan {
     {
         let number = self.air.next_number();
         self.seats.judge_counts(station)?;
-        let Some(came) = self.seats.tick(station, number, next, draws)? else {
+        let Some(event_facts) = self.seats.tick(station, number, next, draws)? else {
             return Ok(Facts::new(self.alloc));
         };
-        self.count_tick(&came)?;
-        Ok(came.facts)
+        self.count_tick(&event_facts)?;
+        Ok(event_facts.facts)
     }
 
     /// What a tick shows is judged, counted, and put on the air.
-    fn count_tick(&mut self, came: &Came) -> Result<(), StepError>
+    fn count_tick(&mut self, event_facts: &EventFacts) -> Result<(), StepError>
         ensures judges { MayJudge (option_or
-            (option_map Limit (passed_with (self.old.air ++ option_to_list (sent_in came.now.facts))
+            (option_map Limit (passed_with (self.old.air ++ option_to_list (sent_in event_facts.now.facts))
             (self.old.ticks + 1)
-            came.now.installs (length self.old.names)))
+            event_facts.now.installs (length self.old.names)))
             (stop_of self.old.drawn (option_and_then (number_of_sak self.old.drawn)
-            (drawn_sak came.now.facts)))) result }
+            (drawn_sak event_facts.now.facts)))) result }
         ensures ticked { OnOk result (self.new ≡ record self.old {
-          air = self.old.air ++ option_to_list (sent_in came.now.facts);
+          air = self.old.air ++ option_to_list (sent_in event_facts.now.facts);
           ticks = self.old.ticks + 1;
           drawn = self.new.drawn;
         }) }
         ensures drawn { OnOk result
             (IfNoted (sak_draws self.old.settings.suite) self.old.drawn self.new.drawn
-            (drawn_sak came.now.facts)) }
+            (drawn_sak event_facts.now.facts)) }
         ensures shown { OnErr result ((self.new.air ≡ self.old.air)
             × (self.new.names ≡ self.old.names)) }
     {
-        let sent = came.sent();
+        let sent = event_facts.sent();
         let ticks = self.ticks + 1;
-        self.extent(sent, ticks, came.installs).judge()?;
-        note_sak(&mut self.drawn, self.judge.suite(), came.installed())?;
+        self.extent(sent, ticks, event_facts.installs).judge()?;
+        note_sak(&mut self.drawn, self.judge.suite(), event_facts.installed())?;
         self.ticks = ticks;
         self.air.put(sent)?;
         Ok(())
@@ -132,10 +132,10 @@ impl Lan {
     {
         let draw = draws.draw().ok_or(Stop::DrawsSpent)?;
         note_mi(&mut self.drawn, mi_of(draw))?;
-        let Some(came) = self.seats.restart(station, draw)? else {
+        let Some(event_facts) = self.seats.restart(station, draw)? else {
             return Ok(Facts::new(self.alloc));
         };
-        Ok(came.facts)
+        Ok(event_facts.facts)
     }
 }
 

@@ -45,11 +45,11 @@ impl Lan {
             return Ok(Facts::new(self.alloc));
         };
         self.seats.judge_counts(station)?;
-        let Some(came) = self.seats.reach(station, frame, octets, &mut self.judge)? else {
+        let Some(event_facts) = self.seats.reach(station, frame, octets, &mut self.judge)? else {
             return Ok(Facts::new(self.alloc));
         };
-        judge_installs(came.installs)?;
-        Ok(came.facts)
+        judge_installs(event_facts.installs)?;
+        Ok(event_facts.facts)
     }
 
     /// A frame of the air that was checked reaches a station.
@@ -65,11 +65,11 @@ impl Lan {
             → Answers settings users r (events.Deliver number station) nth nth self.new result }
         ensures shown { (self.new.air ≡ self.old.air) × (self.new.names ≡ self.old.names) }
     {
-        let Some(came) = self.seats.admit(station, number, checked)? else {
+        let Some(event_facts) = self.seats.admit(station, number, checked)? else {
             return Ok(Facts::new(self.alloc));
         };
-        judge_installs(came.installs)?;
-        Ok(came.facts)
+        judge_installs(event_facts.installs)?;
+        Ok(event_facts.facts)
     }
 
     /// A station protects a user frame, or gets no packet number.
@@ -137,12 +137,12 @@ impl Lan {
             return Ok(Facts::new(self.alloc));
         }
         self.seats.judge_counts(station)?;
-        let Some(came) = self.seats.reach(station, 0, octets, &mut self.judge)? else {
+        let Some(event_facts) = self.seats.reach(station, 0, octets, &mut self.judge)? else {
             return Ok(Facts::new(self.alloc));
         };
-        judge_installs(came.installs)?;
+        judge_installs(event_facts.installs)?;
         judge_forgery(&mut self.judge, &self.air, station, octets)?;
-        Ok(came.facts)
+        Ok(event_facts.facts)
     }
 }
 

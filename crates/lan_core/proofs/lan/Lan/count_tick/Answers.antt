@@ -15,9 +15,9 @@ use Rattle.lan_core.proofs.lan.Lan.count_tick.Goals as goal
 pub returns-in_err-note_sak-clause-judges : goal.returns-in_err-note_sak-clause-judges
 returns-in_err-note_sak-clause-judges c =
     let lan = c.args.self.now in
-    let shown = c.args.came.now.facts in
+    let shown = c.args.event_facts.now.facts in
     let none : option_map Limit (passed_with (lan.air ++ option_to_list (sent_in shown)) (lan.ticks + 1)
-    c.args.came.now.installs (length lan.names)) ≡ None = search rules in
+    c.args.event_facts.now.installs (length lan.names)) ≡ None = search rules in
     let own = c.self.inside.drawn in
     let error = c.in_err-note_sak.field-0.0 in
     let here : IsWhy (stop_of own (option_and_then (number_of_sak own) (drawn_sak shown))) error =
@@ -27,7 +27,7 @@ returns-in_err-note_sak-clause-judges c =
     subst (λ (q : State). IsWhy (stop_of q.drawn (option_and_then (number_of_sak q.drawn) (drawn_sak shown))) error)
     c.self.view_is here in
     judged-later (option_map Limit (passed_with (lan.air ++ option_to_list (sent_in shown)) (lan.ticks + 1)
-    c.args.came.now.installs (length lan.names)))
+    c.args.event_facts.now.installs (length lan.names)))
     (stop_of lan.drawn (option_and_then (number_of_sak lan.drawn) (drawn_sak shown))) error
     c.from_residual-in_err-note_sak.result c.from_residual-in_err-note_sak.ensures.1 none why
 

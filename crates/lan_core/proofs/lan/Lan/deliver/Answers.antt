@@ -24,8 +24,8 @@ returns-clause-answers c settings users r nth stands comes =
     let place = place-of settings users r _ st s comes.0 in
     let there = place.1.1 in
     let of = set-up-alike now.judge.settings settings place.0 there.alive.member.setup st.set_up there.seated.1 in
-    let reaches = came-so (Reaches settings r s there.seat there.alive n octets now.seats new) c.in_ok-came.field-0
-    c.in-Some-2.came c.in-Some-2.is (c.in_ok-came.ensures.came settings r there.seat there.alive there.there there.seated.0 of) in
+    let reaches = came-so (Reaches settings r s there.seat there.alive n octets now.seats new) c.in_ok-event_facts.field-0
+    c.in-Some-2.event_facts c.in-Some-2.is (c.in_ok-event_facts.ensures.event_facts settings r there.seat there.alive there.there there.seated.0 of) in
     subst (λ (q : Settings). GoesOn settings users r (events.Deliver n s) nth nth (record {
       settings = q;
       stopped = now.stopped;
@@ -35,10 +35,10 @@ returns-clause-answers c settings users r nth stands comes =
       waiting = now.waiting;
       ticks = now.ticks;
       drawn = now.drawn;
-    }) c.in-Some-2.came.facts)
-    (sym c.in_ok-came.ensures.kept)
+    }) c.in-Some-2.event_facts.facts)
+    (sym c.in_ok-event_facts.ensures.kept)
     (reach-goes-on settings users r _ st (events.Deliver n s) s n octets
-    (delivered settings users r _ st n s octets at) place.0 place.1.0 there new c.in-Some-2.came reaches nth
+    (delivered settings users r _ st n s octets at) place.0 place.1.0 there new c.in-Some-2.event_facts reaches nth
     c.in_ok-judge_installs.ensures refl)
 
 pub returns-in_default-clause-answers : goal.returns-in_default-clause-answers
@@ -56,8 +56,8 @@ returns-in_default-2-clause-answers c settings users r nth stands comes =
     let there = place.1.1 in
     let of = set-up-alike now.judge.settings settings place.0 there.alive.member.setup st.set_up there.seated.1 in
     absurd (came-not (Reaches settings r s there.seat there.alive n c.in-Some.octets.now now.seats c.reach.new.self)
-    c.in_ok-came.field-0 c.in_default-2.is
-    (c.in_ok-came.ensures.came settings r there.seat there.alive there.there there.seated.0 of))
+    c.in_ok-event_facts.field-0 c.in_default-2.is
+    (c.in_ok-event_facts.ensures.event_facts settings r there.seat there.alive there.there there.seated.0 of))
 
 pub returns-in_err-judge_installs-clause-answers : goal.returns-in_err-judge_installs-clause-answers
 returns-in_err-judge_installs-clause-answers c settings users r nth stands comes =
@@ -72,10 +72,10 @@ returns-in_err-judge_installs-clause-answers c settings users r nth stands comes
     let place = place-of settings users r _ st s comes.0 in
     let there = place.1.1 in
     let of = set-up-alike now.judge.settings settings place.0 there.alive.member.setup st.set_up there.seated.1 in
-    let reaches = came-so (Reaches settings r s there.seat there.alive n octets now.seats new) c.in_ok-came.field-0
-    c.in-Some-2.came c.in-Some-2.is (c.in_ok-came.ensures.came settings r there.seat there.alive there.there there.seated.0 of) in
+    let reaches = came-so (Reaches settings r s there.seat there.alive n octets now.seats new) c.in_ok-event_facts.field-0
+    c.in-Some-2.event_facts c.in-Some-2.is (c.in_ok-event_facts.ensures.event_facts settings r there.seat there.alive there.there there.seated.0 of) in
     let first = reach-stops settings users r _ st (events.Deliver n s) s n octets
-    (delivered settings users r _ st n s octets at) place.0 there new c.in-Some-2.came reaches nth in
+    (delivered settings users r _ st n s octets at) place.0 there new c.in-Some-2.event_facts reaches nth in
     stopped settings users r (events.Deliver n s) nth nth _ _ _ c.from_residual-in_err-judge_installs.ensures.1
     (or-none _ _ first ∙ c.in_err-judge_installs.ensures)
 

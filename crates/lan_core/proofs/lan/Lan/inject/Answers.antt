@@ -21,8 +21,8 @@ returns-clause-answers c settings users r nth stands comes =
     let place = place-of settings users r _ st s comes.0 in
     let there = place.1.1 in
     let of = set-up-alike now.judge.settings settings place.0 there.alive.member.setup st.set_up there.seated.1 in
-    let reaches = came-so (Reaches settings r s there.seat there.alive 0 octets now.seats new) c.in_ok-came.field-0
-    c.in-Some.came c.in-Some.is (c.in_ok-came.ensures.came settings r there.seat there.alive there.there there.seated.0 of) in
+    let reaches = came-so (Reaches settings r s there.seat there.alive 0 octets now.seats new) c.in_ok-event_facts.field-0
+    c.in-Some.event_facts c.in-Some.is (c.in_ok-event_facts.ensures.event_facts settings r there.seat there.alive there.there there.seated.0 of) in
     subst (λ (q : Settings). GoesOn settings users r (events.Inject s octets) nth nth (record {
       settings = q;
       stopped = now.stopped;
@@ -32,12 +32,12 @@ returns-clause-answers c settings users r nth stands comes =
       waiting = now.waiting;
       ticks = now.ticks;
       drawn = now.drawn;
-    }) c.in-Some.came.facts)
-    (sym (c.in_ok-judge_forgery.ensures.kept ∙ c.in_ok-came.ensures.kept))
+    }) c.in-Some.event_facts.facts)
+    (sym (c.in_ok-judge_forgery.ensures.kept ∙ c.in_ok-event_facts.ensures.kept))
     (reach-goes-on settings users r _ st (events.Inject s octets) s 0 octets
-    (injects settings users r s octets) place.0 place.1.0 there new c.in-Some.came reaches nth
+    (injects settings users r s octets) place.0 place.1.0 there new c.in-Some.event_facts reaches nth
     c.in_ok-judge_installs.ensures
-    (subst (λ q. stop_of_forgery q r (events.Inject s octets) ≡ None) (c.in_ok-came.ensures.kept ∙ st.set_up)
+    (subst (λ q. stop_of_forgery q r (events.Inject s octets) ≡ None) (c.in_ok-event_facts.ensures.kept ∙ st.set_up)
     (c.in_ok-judge_forgery.ensures.judges r st.on_air comes.0)))
 
 pub returns-in_default-clause-answers : goal.returns-in_default-clause-answers
@@ -49,8 +49,8 @@ returns-in_default-clause-answers c settings users r nth stands comes =
     let there = place.1.1 in
     let of = set-up-alike now.judge.settings settings place.0 there.alive.member.setup st.set_up there.seated.1 in
     absurd (came-not (Reaches settings r s there.seat there.alive 0 c.args.octets.now now.seats c.reach.new.self)
-    c.in_ok-came.field-0 c.in_default.is
-    (c.in_ok-came.ensures.came settings r there.seat there.alive there.there there.seated.0 of))
+    c.in_ok-event_facts.field-0 c.in_default.is
+    (c.in_ok-event_facts.ensures.event_facts settings r there.seat there.alive there.there there.seated.0 of))
 
 pub returns-in_err-judge_installs-clause-answers : goal.returns-in_err-judge_installs-clause-answers
 returns-in_err-judge_installs-clause-answers c settings users r nth stands comes =
@@ -62,10 +62,10 @@ returns-in_err-judge_installs-clause-answers c settings users r nth stands comes
     let place = place-of settings users r _ st s comes.0 in
     let there = place.1.1 in
     let of = set-up-alike now.judge.settings settings place.0 there.alive.member.setup st.set_up there.seated.1 in
-    let reaches = came-so (Reaches settings r s there.seat there.alive 0 octets now.seats new) c.in_ok-came.field-0
-    c.in-Some.came c.in-Some.is (c.in_ok-came.ensures.came settings r there.seat there.alive there.there there.seated.0 of) in
+    let reaches = came-so (Reaches settings r s there.seat there.alive 0 octets now.seats new) c.in_ok-event_facts.field-0
+    c.in-Some.event_facts c.in-Some.is (c.in_ok-event_facts.ensures.event_facts settings r there.seat there.alive there.there there.seated.0 of) in
     let first = reach-stops settings users r _ st (events.Inject s octets) s 0 octets
-    (injects settings users r s octets) place.0 there new c.in-Some.came reaches nth in
+    (injects settings users r s octets) place.0 there new c.in-Some.event_facts reaches nth in
     stopped settings users r (events.Inject s octets) nth nth _ _ _ c.from_residual-in_err-judge_installs.ensures.1
     (by-first _ _ _ _ first c.in_err-judge_installs.ensures)
 
@@ -79,13 +79,13 @@ returns-in_err-judge_forgery-clause-answers c settings users r nth stands comes 
     let place = place-of settings users r _ st s comes.0 in
     let there = place.1.1 in
     let of = set-up-alike now.judge.settings settings place.0 there.alive.member.setup st.set_up there.seated.1 in
-    let reaches = came-so (Reaches settings r s there.seat there.alive 0 octets now.seats new) c.in_ok-came.field-0
-    c.in-Some.came c.in-Some.is (c.in_ok-came.ensures.came settings r there.seat there.alive there.there there.seated.0 of) in
+    let reaches = came-so (Reaches settings r s there.seat there.alive 0 octets now.seats new) c.in_ok-event_facts.field-0
+    c.in-Some.event_facts c.in-Some.is (c.in_ok-event_facts.ensures.event_facts settings r there.seat there.alive there.there there.seated.0 of) in
     let first = reach-stops settings users r _ st (events.Inject s octets) s 0 octets
-    (injects settings users r s octets) place.0 there new c.in-Some.came reaches nth in
+    (injects settings users r s octets) place.0 there new c.in-Some.event_facts reaches nth in
     refused settings users r (events.Inject s octets) nth nth _ _ _ c.from_residual-in_err-judge_forgery.ensures.1
     (by-part _ _ _ (or-later _ _ _ first c.in_ok-judge_installs.ensures)
-    (subst (λ q. IsWhy (stop_of_forgery q r (events.Inject s octets)) c.in_err-judge_forgery.field-0.0) (c.in_ok-came.ensures.kept ∙ st.set_up)
+    (subst (λ q. IsWhy (stop_of_forgery q r (events.Inject s octets)) c.in_err-judge_forgery.field-0.0) (c.in_ok-event_facts.ensures.kept ∙ st.set_up)
     (c.in_err-judge_forgery.ensures.judges r st.on_air comes.0)))
 
 pub returns-in_err-judge_counts-clause-answers : goal.returns-in_err-judge_counts-clause-answers

@@ -41,8 +41,8 @@ returns-in_default-clause-answers g c settings users r stands comes =
     let st = subst (λ lan. StandsFor settings users lan r) (sym c.self.view_is) stands in
     let there = (place-of settings users r _ st s comes).1.1 in
     absurd (came-not (Restarts settings r s there.seat there.alive c.in_ok-draw.draw now.seats c.restart.new.self)
-    c.in_ok-came.field-0 c.in_default.is
-    (c.in_ok-came.ensures settings r there.seat there.alive there.there there.seated.0))
+    c.in_ok-event_facts.field-0 c.in_default.is
+    (c.in_ok-event_facts.ensures settings r there.seat there.alive there.there there.seated.0))
 
 pub returns-clause-answers : goal.returns-clause-answers
 returns-clause-answers g c settings users r stands comes =
@@ -58,10 +58,10 @@ returns-clause-answers g c settings users r stands comes =
     let first : nth 0 ≡ Some draw = sym c.draw.ensures.next ∙ c.in_ok-draw.ensures.ok_part in
     let taken : (k : ℕ) → after k ≡ nth (k + 1) =
     subst (λ o. OnSome o ((k : ℕ) → after k ≡ nth (k + 1))) c.in_ok-draw.ensures.ok_part c.draw.ensures.taken in
-    let did = came-so (Restarts settings r s there.seat there.alive draw now.seats new) c.in_ok-came.field-0
-    c.in-Some.came c.in-Some.is (c.in_ok-came.ensures settings r there.seat there.alive there.there there.seated.0) in
+    let did = came-so (Restarts settings r s there.seat there.alive draw now.seats new) c.in_ok-event_facts.field-0
+    c.in-Some.event_facts c.in-Some.is (c.in_ok-event_facts.ensures settings r there.seat there.alive there.there there.seated.0) in
     let goes : stop_of now.drawn (number_of_mi now.drawn (drawn_mi draw)) ≡ None =
     subst (λ mi. stop_of now.drawn (number_of_mi now.drawn mi) ≡ None) c.mi_of.ensures c.in_ok-note_mi.ensures.judges in
     let noted = subst (λ mi. MiIsNoted now.drawn c.note_mi.new.drawn mi) c.mi_of.ensures c.in_ok-note_mi.ensures.noted in
-    restart-goes-on settings users r _ st s place.0 place.1.0 there draw new c.in-Some.came did nth after first taken goes
+    restart-goes-on settings users r _ st s place.0 place.1.0 there draw new c.in-Some.event_facts did nth after first taken goes
     c.note_mi.new.drawn noted

@@ -2,8 +2,8 @@ use Rattle.lan_core.specs.Lives.{receiving, heard_data}
 use Rattle.lan_core.proofs.SeatMoved.{is-the-seat, same-seat, more-installs, moves}
 use Rattle.lan_core.proofs.seats.Seats.reach.Goals as goal
 
-pub returns-clause-came : goal.returns-clause-came
-returns-clause-came c settings r seat l there sits of =
+pub returns-clause-event_facts : goal.returns-clause-event_facts
+returns-clause-event_facts c settings r seat l there sits of =
     let s = c.args.place in
     let h = receiving s r in
     let given = c.in-Some.seat.now in

@@ -2,8 +2,8 @@ use Rattle.lan_core.specs.Lives.{receiving}
 use Rattle.lan_core.proofs.SeatMoved.{is-the-seat, same-seat, more-installs, moves, refused-tick}
 use Rattle.lan_core.proofs.seats.Seats.tick.Goals as goal
 
-pub returns-clause-came : goal.returns-clause-came
-returns-clause-came g c settings r seat l there sits numbered =
+pub returns-clause-event_facts : goal.returns-clause-event_facts
+returns-clause-event_facts g c settings r seat l there sits numbered =
     let s = c.args.place in
     let h = receiving s r in
     let given = c.in-Some.seat.now in

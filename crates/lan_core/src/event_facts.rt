@@ -1,4 +1,4 @@
-//! What an event comes to at its station.
+//! What an event shows at its station.
 
 ghost use Rattle.std.specs.Prelude.{◌≡◌};
 ghost use Rattle.std.specs.Option.{option_copied};
@@ -9,15 +9,15 @@ use crate::fact::{Fact, Facts};
 use aes_block::Secret;
 use lan_base::Octets;
 
-/// What an event comes to at its station: its facts, and how many keys the station then installed,
-/// over all its lives.
+/// What an event shows at its station: its facts, and how many keys the station then installed, over
+/// all its lives.
 #[derive(Drop)]
-pub struct Came {
+pub struct EventFacts {
     pub facts: Facts,
     pub installs: u32,
 }
 
-impl Came {
+impl EventFacts {
     /// The frame that was put on the air, if one was.
     pub fn sent(&self) -> Option<&Octets>
         ensures { option_copied result ≡ sent_in self.now.facts }
