@@ -1,11 +1,10 @@
 -- What the fields of a `Control` keep, over its calls.
-use Rattle.std.proofs.Common.{◌≡◌, ◌≢◌, ℕ, zero, suc, ◌+◌, ◌-◌, ◌<◌, ◌≤◌, max, Bool, true, false, eqb, List, [], ◌∷◌, ◌++◌, length, get_or, set, drop, refl, sym, ap, ◌∙◌, subst, inl, inr, ⊎_elim, arith, eq-eqb, ne_eqb, get_or-set_other, get_or-set_same}
+use Rattle.std.proofs.Common.{◌≡◌, ◌≢◌, ℕ, zero, suc, ◌+◌, ◌-◌, ◌<◌, ◌≤◌, max, Bool, true, false, eqb, List, [], ◌∷◌, ◌++◌, length, get_or, set, refl, sym, ap, ◌∙◌, subst, inl, inr, ⊎_elim, arith, eq-eqb, ne_eqb, get_or-set_other, get_or-set_same}
 use mathlib.Core.Logic.{dite}
 use native.Mathlib.Decide.{ℕ_discrete}
-use Rattle.std.proofs.lemmas.Bool.{false≢true}
 use Rattle.lan_base.specs.AssociationNumbers.{number_of}
 use Rattle.lan_base.specs.declared.association_number.AssociationNumber.{AssociationNumber}
-use Rattle.association_slots.specs.Views.{In, cons_if, blank_slot, free, greatest, of_seat}
+use Rattle.association_slots.specs.Views.{In, cons_if, blank_slot, greatest, of_seat}
 use Rattle.association_slots.specs.declared.view.SlotView.{SlotView}
 use Rattle.association_slots.specs.declared.view.Mark.{Mark}
 use Rattle.association_slots.proofs.SlotNumbers.{same_or_apart}
@@ -23,30 +22,6 @@ low_set n ss k x low each j = ⊎_elim (λ e. subst (λ (i : AssociationNumber).
     here = changed ss (number_of k) (each k)
 
 -- The first free place, place by place
-
-pub free_next : (out : List Bool) (place : ℕ) → get_or out place false ≡ true → free (drop place out) ≡ suc (free (drop (suc place) out))
-free_next [] place is = absurd (false≢true is)
-free_next (true ∷ out) zero is = refl
-free_next (false ∷ out) zero is = absurd (false≢true is)
-free_next (x ∷ out) (suc place) is = free_next out place is
-
-pub free_here : (out : List Bool) (place : ℕ) → get_or out place false ≡ false → free (drop place out) ≡ 0
-free_here [] zero is = refl
-free_here [] (suc place) is = refl
-free_here (true ∷ out) zero is = absurd (false≢true (sym is))
-free_here (false ∷ out) zero is = refl
-free_here (x ∷ out) (suc place) is = free_here out place is
-
-pub free_past : (out : List Bool) (place : ℕ) → length out ≤ place → free (drop place out) ≡ 0
-free_past [] zero l = refl
-free_past [] (suc place) l = refl
-free_past (x ∷ out) zero l = absurd (omega arith)
-free_past (x ∷ out) (suc place) l = free_past out place (omega arith)
-
-pub free_low : (out : List Bool) → free out ≤ length out
-free_low [] = omega arith
-free_low (true ∷ out) = let r = free_low out in omega arith
-free_low (false ∷ out) = omega arith
 
 if_same : (b : Bool) (m : Mark) (ms : List Mark) → b ≡ true → greatest (cons_if b m ms) ≡ max m.epoch (greatest ms)
 if_same b m ms is = ap (λ (x : Bool). greatest (cons_if x m ms)) is

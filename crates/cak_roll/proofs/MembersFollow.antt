@@ -40,11 +40,6 @@ pub length-map : {A B : Type 0} (f : A → B) (xs : List A) → length (map f xs
 length-map f [] = refl
 length-map f (x ∷ xs) = omega (arith, length-map f xs)
 
-pub as-many-start : (t : Twin) (m : Members) → AreMembers t m
-    → length m.stations ≡ length (stations (run_of First t))
-as-many-start t m are =
-    sym (length-map profile_of m.stations) ∙ ap (λ ps. length ps) are.stations
-
 pub place-within : (s : ℕ) (xs : List ℕ) → place_among s xs ≤ length xs
 place-within s [] = omega arith
 place-within s (x ∷ xs) = by (x == s) (place-within s xs)

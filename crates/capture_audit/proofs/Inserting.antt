@@ -348,10 +348,6 @@ frame-moved n then packet (kinds.Sec (secs.Protected tag check)) one two is =
     ∙ frame-under then packet.head.nanos (right_under n packet.head.nanos tag check) (right_under then packet.head.nanos tag check)
     (λ key. refl) (right_key one tag (frame_of packet.octets))
 
-in-packet-number : (then time : ℕ) (o : Option RightFrame) → IsOfNumber then (option_map (in_packet then time) o)
-in-packet-number then time None = tt
-in-packet-number then time (Some e) = refl
-
 -- a frame more, counted further
 noted-moved : (n last then time : ℕ) (o : Option RightFrame) (h now : List RightFrame) → n < last → then ≡ last + 1
     → IsOfNumber last o → TellsBack Number (List ℕ) n (noted h) (noted now)

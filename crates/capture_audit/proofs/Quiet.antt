@@ -1,10 +1,9 @@
 -- A packet that gives no key changes none that are known.
-use Rattle.std.proofs.Common.{◌≡◌, ◌∙◌, ◌<◌, ℕ, Bool, true, false, List, ◌∷◌, ◌++◌, length, Some, None, refl, sym, ap, subst, arith}
+use Rattle.std.proofs.Common.{◌≡◌, ◌∙◌, ◌<◌, ℕ, false, List, ◌∷◌, ◌++◌, Some, None, refl, sym, ap, subst}
 use Rattle.std.specs.Prelude.{Option, is_some}
-use Rattle.capture_packets.specs.Packets.{Seen}
 use Rattle.gcm_frames.specs.declared.tag.Tag.{Tag}
 use Rattle.key_ring.specs.Rings.{Ring}
-use Rattle.known_keys.specs.History.{Entry, keys}
+use Rattle.known_keys.specs.History.{Entry}
 use Rattle.mkpdu_codec.specs.declared.given.Given.{Given}
 use Rattle.lan_base.specs.declared.address.Mi.{Mi}
 use Rattle.packet_verdicts.specs.declared.given.Gift.{Gift}
@@ -16,11 +15,8 @@ use Rattle.packet_verdicts.specs.declared.kind.Mka.TheVariants as mkas
 use Rattle.packet_verdicts.specs.Given.{GivesBy, shown_keys}
 use Rattle.packet_verdicts.specs.Groups.{GroupKeys}
 use Rattle.packet_verdicts.specs.Kinds.{packet_kind}
-use Rattle.capture_audit.specs.declared.auditor.Auditor.{Auditor}
 use Rattle.capture_audit.specs.Before.{IsUnwrapped, Unwrapped, UnwrapsBy, entries, entries_by, mkpdu_entries, number_behind, right_key, shown_entries}
-use Rattle.known_keys.specs.Numbered.{most_keys}
 use Rattle.capture_audit.specs.inside.Batches.{HaveSameKeys, distributes}
-use Rattle.capture_audit.specs.inside.Keeping.{IsFull, Keeps}
 use Rattle.capture_audit.proofs.Behind.{mkpdu-behind, mkpdu-keys}
 
 -- what gives nothing
@@ -63,16 +59,3 @@ pub quiet-behind : (ring : Ring) (before : List Unwrapped) (u : Unwrapped) → I
     → distributes (packet_kind ring.groups u.packet) ≡ false → HaveSameKeys (entries ring before) (entries ring (u ∷ before))
 quiet-behind ring before u is quiet =
     quiet-same ring.groups (number_behind before) u.packet.head.nanos u.gift (packet_kind ring.groups u.packet) (entries ring before) quiet is
-
--- one that makes a key too many gives one
-pub full-distributes : (ring : Ring) (before : List Unwrapped) (packet : Seen) (a old new : Auditor)
-    → Keeps ring before a → IsFull ring before packet old new → distributes (packet_kind ring.groups packet) ≡ true
-full-distributes ring before packet a old new keeps full = go (distributes (packet_kind ring.groups packet)) refl
-  where
-    go : (b : Bool) → distributes (packet_kind ring.groups packet) ≡ b → distributes (packet_kind ring.groups packet) ≡ true
-    go true e = e
-    go false e =
-        let same = (quiet-behind ring before (record { packet = packet; gift = full.gift }) full.unwrapped e).key_list in
-        let few = keeps.few in
-        let many : most_keys < length (keys (entries ring before)) = subst (λ ks. most_keys < length ks) same full.many in
-        absurd (omega (arith, few, many))

@@ -197,27 +197,3 @@ module _ (asks : Asks) (text : List ℕ) (left held then : Option (List ℕ)) (f
   ends-of (blames.Doubted wrong undecided) ending so is = (ending, so, is)
 
 -- ---- which faults an end can be
-
-at-fault : (ending : Ending) → end_at ending ≡ Err ends.ReadFault → ending ≡ endings.Fault
-at-fault endings.Whole is = absurd (cc is)
-at-fault endings.Fault is = refl
-at-fault endings.InputLimit is = absurd (cc is)
-at-fault endings.KeyLimit is = absurd (cc is)
-at-fault (endings.Octet at why) is = absurd (cc is)
-
-pub of-fault : (blamed : Blame) (ending : Ending) → end_of blamed ending ≡ Err ends.ReadFault → ending ≡ endings.Fault
-of-fault blames.None ending is = at-fault ending is
-of-fault blames.Refuted ending is = absurd (cc is)
-of-fault (blames.Doubted wrong undecided) ending is = absurd (cc is)
-
-at-sink : (ending : Ending) → end_at ending ≡ Err ends.WriteFault → ⊥
-at-sink endings.Whole is = cc is
-at-sink endings.Fault is = cc is
-at-sink endings.InputLimit is = cc is
-at-sink endings.KeyLimit is = cc is
-at-sink (endings.Octet at why) is = cc is
-
-pub of-sink : (blamed : Blame) (ending : Ending) → end_of blamed ending ≡ Err ends.WriteFault → ⊥
-of-sink blames.None ending is = at-sink ending is
-of-sink blames.Refuted ending is = cc is
-of-sink (blames.Doubted wrong undecided) ending is = cc is

@@ -19,7 +19,7 @@ use Rattle.capture_audit.specs.declared.end.AuditEnd.{AuditEnd}
 use Rattle.capture_audit.specs.declared.end.AuditEnd.TheVariants as ends
 use Rattle.capture_audit.specs.Ends.{EndsAudit}
 use Rattle.capture_audit.specs.Reading.{IsRead}
-use Rattle.capture_audit.specs.Views.{IsViewed, Views, end_seen}
+use Rattle.capture_audit.specs.Views.{Views, end_seen}
 use Rattle.capture_audit.specs.inside.Auditing.{HasRead, IsHeadRead, OpensFile, ReadsUp, end_of_ring}
 use Rattle.capture_audit.specs.inside.Keeping.{EndsOf}
 use Rattle.capture_audit.specs.inside.Viewing.{IsEndOfHand, ReadsCapture}
@@ -58,13 +58,6 @@ open-views text left ends.InputLimit is = is
 open-views text left ends.ReadFault is = is
 open-views text left ends.Memory is = tt
 open-views text left _ is = absurd is
-
--- keys without numbers are no fault of the outside
-pub not-numbered-so : (ring : Ring) (end : AuditEnd) → IsEndOfHand ring.hand end
-    → (end ≡ ends.ReadFault → ⊥) × (end ≡ ends.WriteFault → ⊥)
-not-numbered-so ring ends.KeyLimit is = (λ e. cc e, λ e. cc e)
-not-numbered-so ring ends.Memory is = (λ e. cc e, λ e. cc e)
-not-numbered-so ring _ is = absurd is
 
 -- ---- packets were read
 

@@ -1,6 +1,6 @@
 -- The definitions at worked values.
 use Rattle.std.proofs.Common.{◌≡◌, List, [], ◌∷◌, ◌++◌, Ok, Err, refl}
-use Rattle.std.specs.Prelude.{ℕ, codes}
+use Rattle.std.specs.Prelude.{ℕ}
 use Rattle.capture_file.specs.declared.fault.CaptureFault.TheVariants.{Magic, LinkType, Length}
 use Rattle.capture_file.specs.declared.order.Order.TheVariants.{Big, Little}
 use Rattle.capture_file.specs.Pcap.{head_octets, header_octets, head_read, kept_read, record_octets}

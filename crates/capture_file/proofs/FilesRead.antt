@@ -1,14 +1,14 @@
 -- What is written is read, and in one way.
-use Rattle.std.proofs.Common.{◌≡◌, ◌≤◌, ◌<◌, ◌+◌, ◌^◌, ℕ, Bool, true, false, cond, List, [], ◌∷◌, ◌++◌, length, take, drop, Result, Ok, Err, refl, ap, sym, ◌∙◌, append_assoc, arith, length-append, take_at, drop_at, subst}
+use Rattle.std.proofs.Common.{◌≡◌, ◌≤◌, ◌<◌, ◌+◌, ◌^◌, ℕ, Bool, false, cond, List, [], ◌∷◌, ◌++◌, length, take, drop, Result, Ok, Err, refl, ap, sym, ◌∙◌, append_assoc, arith, length-append, take_at, drop_at, subst}
 use Rattle.std.specs.Prelude.{All, map, nat_lt}
 use Rattle.std.proofs.lemmas.Bool.{le-ltb}
 use Rattle.std.proofs.lemmas.List.Elements.{All-head, All-tail}
-use Rattle.byteorder.specs.Endian.{big_bytes, big_number}
+use Rattle.byteorder.specs.Endian.{big_bytes}
 use Rattle.byteorder.specs.Numbers.{big_number-reads_back}
 use Rattle.capture_file.specs.declared.fault.CaptureFault.{CaptureFault}
 use Rattle.capture_file.specs.declared.fault.CaptureFault.TheVariants.{Length}
 use Rattle.capture_file.specs.declared.order.Order.{Order}
-use Rattle.capture_file.specs.declared.order.Order.TheVariants.{Big, Little}
+use Rattle.capture_file.specs.declared.order.Order.TheVariants.{Big}
 use Rattle.capture_file.specs.Pcap.{head_octets, header_octets, head_read, kept_read, most_kept, most_written, number_in}
 use Rattle.capture_file.specs.Records.{AreRecords, IsRecord, IsFileOf, Packet, file_of, records_of}
 

@@ -1,6 +1,6 @@
 -- The fields of the record or block that a text goes on with are looked at.
 use Rattle.std.proofs.Common.{◌≡◌, ◌≢◌, ℕ, ◌<◌, ◌≤◌, Bool, true, false, List, [], ◌++◌, length, take, Option, Some, None, Result, Ok, Err, refl, sym, ap, ◌∙◌, length-append, arith, inl, inr}
-use Rattle.std.specs.Prelude.{IfOk, IfSome, if◌then◌else◌, min, ◌==◌}
+use Rattle.std.specs.Prelude.{if◌then◌else◌, min, ◌==◌}
 use Rattle.std.proofs.lemmas.Bool.{cases_lt}
 use Rattle.std.proofs.lemmas.Bool.Decides.{nat_tests}
 use Rattle.std.proofs.lemmas.List.{length-take-le, take-append-le, take_all}
@@ -149,25 +149,6 @@ frames-by limit text given behind held known at new left most true (Err fault.In
     frames-refused limit text given behind held known at new left most true fault.Interface s some is (λ e. cc e)
 frames-by limit text given behind held known at new left most false (Err fault.Interface) stands s some is short =
     frames-refused limit text given behind held known at new left most false fault.Interface s some is (λ e. cc e)
-
--- a block that was found is one that the fields tell
-pub judged-some : (at : ℕ) (past : Bool) (n : ℕ) (r : Result Block CaptureFault)
-    → IfOk r (λ (b : Block). (8 ≤ b.before) × (b.before ≤ n))
-    → IfOk (judged at past r) (λ (o : Option Block). IfSome o (λ (b : Block). 8 ≤ b.before))
-judged-some at true n (Ok b) some = some.0
-judged-some at false n (Ok b) some = some.0
-judged-some at true n (Err fault.Magic) some = tt
-judged-some at false n (Err fault.Magic) some = tt
-judged-some at true n (Err fault.LinkType) some = tt
-judged-some at false n (Err fault.LinkType) some = tt
-judged-some at true n (Err fault.Cut) some = tt
-judged-some at false n (Err fault.Cut) some = tt
-judged-some at true n (Err fault.Length) some = tt
-judged-some at false n (Err fault.Length) some = tt
-judged-some at true n (Err fault.Block) some = tt
-judged-some at false n (Err fault.Block) some = tt
-judged-some at true n (Err fault.Interface) some = tt
-judged-some at false n (Err fault.Interface) some = tt
 
 -- looking failed
 pub frames-look : (limit : ℕ) (text given behind : List ℕ) (known : Context) (at : ℕ) (middle new : Held)

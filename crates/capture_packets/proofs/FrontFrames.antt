@@ -204,17 +204,3 @@ frame-there known a c b is long = elim (cases_lt (length a) (most_fields known.l
       let same = take-append-le (most_fields known.layout) a c many in
       λ cut. cc (sym cut ∙ sym (ap (framed known known.layout) same) ∙ is)
 ]
-
--- the fields of what is read stand before it
-pub frame-before : (known : Context) (x : List ℕ) (b : Block) → frame_of known x ≡ Ok b → 8 ≤ b.before
-frame-before known x b is = by known.layout is
-  where
-    by : (layout : Layout) → framed known layout (take (most_fields layout) x) ≡ Ok b → 8 ≤ b.before
-    by (Records parts) is =
-        let one = or-ok _ fault.Cut _ b is in
-        let two = or-ok _ fault.Length _ b one in
-        let n : b.before ≡ 16 = before-is _ b _ refl two in omega (arith, n)
-    by Blocks is =
-        let octets = take 28 x in
-        let kind = number_at known.order 0 octets in
-        either-before (kind == section_type) kind known.order known.interfaces known.last octets b (or-ok _ fault.Cut _ b is)

@@ -112,17 +112,6 @@ step-more known a c uncut = step-framed known a c (frame_of known a) refl uncut
 
 -- ---- all of them
 
-is-before : (t u : Told) → u ≡ t → IsToldBefore t u
-is-before t u same = record {
-  later = [];
-  packets = ap (λ (v : Told). v.packets) same ∙ sym (append-none t.packets);
-  refused = λ at why is other. same;
-}
-  where
-    append-none : (xs : List Seen) → xs ++ [] ≡ xs
-    append-none [] = refl
-    append-none (x ∷ xs) = ap (λ (l : List Seen). x ∷ l) (append-none xs)
-
 -- a front without packets of which no more than its end is refused
 none-before : (t u : Told) → t.packets ≡ []
     → ((at : ℕ) (why : CaptureFault) → t.refused ≡ Some (record { at = at; why = why }) → why ≢ fault.Cut → u ≡ t)

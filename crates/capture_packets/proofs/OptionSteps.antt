@@ -32,10 +32,6 @@ few (suc n) order ticks rest enough some less =
     let b : nat_lt (length rest) 4 ≡ true = grind (arith, nat_tests) in
     rw (a, b) refl
 
-pub no-head : (order : Order) (all rest : List ℕ) (ticks : ℕ) → HasTicks order all rest ticks
-    → length rest ≢ 0 → length rest < 4 → None ≡ ticks_in order all
-no-head order all rest ticks t some less = sym (few t.count order ticks rest t.enough some less) ∙ t.same
-
 ended : (n : ℕ) (order : Order) (ticks : ℕ) (rest : List ℕ) → length rest ≤ n → length rest ≢ 0 → 4 ≤ length rest
     → half_at order 0 rest ≡ 0 → ticks_within n order ticks rest ≡ Some ticks
 ended zero order ticks rest enough some head last = absurd (omega (arith, enough, some))
@@ -60,12 +56,6 @@ short (suc n) order ticks rest enough some head more less =
     let d : nat_lt (length rest) (4 + padded (half_at order 2 rest)) ≡ true = grind (arith, nat_tests) in
     rw (a, b, c, d) refl
 
-pub no-value : (order : Order) (all rest : List ℕ) (ticks : ℕ) → HasTicks order all rest ticks
-    → length rest ≢ 0 → 4 ≤ length rest → half_at order 0 rest ≢ 0
-    → length rest < 4 + padded (half_at order 2 rest) → None ≡ ticks_in order all
-no-value order all rest ticks t some head more less =
-    sym (short t.count order ticks rest t.enough some head more less) ∙ t.same
-
 bad : (n : ℕ) (order : Order) (ticks : ℕ) (rest : List ℕ) → length rest ≤ n → length rest ≢ 0 → 4 ≤ length rest
     → half_at order 0 rest ≢ 0 → 4 + padded (half_at order 2 rest) ≤ length rest
     → ticks_by order ticks rest ≡ None → ticks_within n order ticks rest ≡ None
@@ -76,13 +66,6 @@ bad (suc n) order ticks rest enough some head more whole is =
     let c : (half_at order 0 rest == 0) ≡ false = grind (arith, nat_tests) in
     let d : nat_lt (length rest) (4 + padded (half_at order 2 rest)) ≡ false = grind (arith, nat_tests) in
     rw (a, b, c, d, is) refl
-
-pub bad-option : (order : Order) (all rest : List ℕ) (ticks : ℕ) → HasTicks order all rest ticks
-    → length rest ≢ 0 → 4 ≤ length rest → half_at order 0 rest ≢ 0
-    → 4 + padded (half_at order 2 rest) ≤ length rest → ticks_by order ticks rest ≡ None
-    → None ≡ ticks_in order all
-bad-option order all rest ticks t some head more whole is =
-    sym (bad t.count order ticks rest t.enough some head more whole is) ∙ t.same
 
 later : (n : ℕ) (order : Order) (ticks next : ℕ) (all rest : List ℕ) → length rest ≤ n → length rest ≢ 0
     → 4 ≤ length rest → half_at order 0 rest ≢ 0 → 4 + padded (half_at order 2 rest) ≤ length rest

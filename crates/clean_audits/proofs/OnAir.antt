@@ -1,6 +1,6 @@
 -- What an event puts on the air: nothing, what a station says at a tick, or the frame of a claim.
-use Rattle.std.proofs.Common.{◌≡◌, refl, sym, ap, ◌∙◌, ℕ, List, [], ◌∷◌, ◌++◌}
-use Rattle.std.proofs.Common.{Bool, true, false, cond, Option, Some, None, Result, Ok, Err}
+use Rattle.std.proofs.Common.{◌≡◌, refl, sym, ap, ◌∙◌, ℕ, List, [], ◌∷◌, ◌++◌, Bool, true, false}
+use Rattle.std.proofs.Common.{cond, Option, Some, None, Result, Ok, Err}
 use Rattle.std.specs.Prelude.{◌==◌, option_map, slice_get}
 use Rattle.lan_base.specs.declared.address.Mi.{Mi}
 use Rattle.lan_base.specs.declared.frame.UserFrame.{UserFrame}
@@ -22,12 +22,11 @@ use Rattle.lan_core.specs.Run.{Run, Happening, Profile, stations}
 use Rattle.lan_core.specs.Ledgers.{Frame, air, framed, gather, next_frame}
 use Rattle.lan_core.specs.Lives.{Life, life, receiving, sak_in, seen_at, transmitting_at}
 use Rattle.lan_core.specs.Claims.{Waiting, frame_by, frame_of_claim, user_at, waiting}
-use Rattle.lan_core.specs.Expected.{claim_fact, emit_facts, lack, number_fact, reached_facts, reaction_facts, restart_facts}
-use Rattle.lan_core.specs.Expected.{tick_facts}
+use Rattle.lan_core.specs.Expected.{claim_fact, emit_facts, lack, number_fact, reached_facts, reaction_facts, restart_facts, tick_facts}
 use Rattle.rx_slots.specs.Numbers.{answer}
 use Rattle.lan_core.specs.Legal.{IsStep}
 use Rattle.lan_core.proofs.Public.{reaction-air, sending}
-use Rattle.group_safety.proofs.Public.{Kind, kind, chained, mapped, sent_frame, tick-gist}
+use Rattle.group_safety.proofs.Public.{kind, chained, mapped, sent_frame, tick-gist}
 use Rattle.group_safety.proofs.Public as kinds
 
 -- the frame of what a station says

@@ -36,12 +36,6 @@ use Rattle.clean_audits.specs.Captured.{IsPacketOf}
 behind-is : (frame : List ℕ) (k : ℕ) → slice_index (drop 12 frame) k ≡ slice_index frame (12 + k)
 behind-is frame k = get_or-drop 12 frame k _
 
-no-tag : (a b c d : Bool) → a ≡ false → d ≡ false → (c && ((a && b) || (c && d))) ≡ false
-no-tag true b c d none last = absurd (true≢false none)
-no-tag false b true true none last = absurd (true≢false last)
-no-tag false b true false none last = refl
-no-tag false b false d none last = refl
-
 -- the second octet of the EtherType is that of no tag
 abbrev pub HasType : List ℕ → Type 0
 HasType frame = (slice_index frame 12 ≡ 0x88) × ((slice_index frame 13 == 0xa8) ≡ false)

@@ -149,16 +149,6 @@ pub record Tells (told : List Entry) (i : Install) : Type 0 where
   pub there : In (Gave packet nanos 1 i.id i.an (Key offset i.sak)) told
   pub opens : is_open offset ≡ true
 
-pub tells-later : (told : List Entry) (entry : Entry) (i : Install) → Tells told i
-    → Tells (entry ∷ told) i
-tells-later told entry i t = record {
-  packet = t.packet;
-  nanos = t.nanos;
-  offset = t.offset;
-  there = inr t.there;
-  opens = t.opens;
-}
-
 told-number : (told : List Entry) (n nanos group : ℕ) (id : KeyId) (an : AssociationNumber)
     (offset : ConfidentialityOffset) (sak : Secret) → In (Gave n nanos group id an (Key offset sak)) told
     → (m : ℕ) × (number_in (keys told) sak ≡ Some m)

@@ -1,10 +1,10 @@
 -- The key encrypting key that is derived of a CAK is one of AES.
-use Rattle.std.proofs.Common.{◌≡◌, ◌∙◌, ◌<◌, ◌≤◌, ◌+◌, ◌-◌, ◌*◌, ◌/◌, ◌⊎◌, inl, inr, ℕ, zero, suc, Bool, true, false, List, [], ◌∷◌, ◌++◌, length, take, drop, replicate, refl, sym, ap, subst, arith, length-append, length-drop, length-take, cond}
-use Rattle.std.specs.Prelude.{All, ◌==◌, codes, if◌then◌else◌}
+use Rattle.std.proofs.Common.{◌≡◌, ◌∙◌, ◌<◌, ◌≤◌, ◌+◌, ◌-◌, ◌*◌, ◌/◌, ◌⊎◌, inl, inr, ℕ, zero, suc, List, [], ◌∷◌, ◌++◌, length, drop, replicate, refl, sym, ap, subst, arith, length-append, length-drop, length-take, cond}
+use Rattle.std.specs.Prelude.{◌==◌, codes, if◌then◌else◌}
 use Rattle.std.specs.Int.{byte_at, bytes_high_first, from_be_bytes, to_be_bytes, w16, w128}
 use Rattle.std.proofs.lemmas.Bool.{cases_eq, eq-eqb, ne_eqb}
 use Rattle.std.proofs.lemmas.Nat.{mod_below}
-use Rattle.aes_block.specs.Aes.{IsBlock, IsKey, IsOctets, aes}
+use Rattle.aes_block.specs.Aes.{IsBlock, IsKey, aes}
 use Rattle.aes_block.specs.Octet.{octets_sum}
 use Rattle.aes_block.proofs.Public.{AreOctets, All-from_AreOctets, AreOctets-append, AreOctets-drop, AreOctets-from_All, AreOctets-octets_sum, AreOctets-take}
 use Rattle.aes_cmac.specs.Cmac.{before_last, block, chain_after, cmac, doubled, doubled_bits, first_subkey, last_block, padded_part, second_subkey}

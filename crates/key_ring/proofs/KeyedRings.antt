@@ -1,5 +1,5 @@
 -- The key encrypting key of each group of a key text is one of AES.
-use Rattle.std.proofs.Common.{◌≡◌, ℕ, suc, List, [], ◌∷◌, Option, Some, None, Result, Ok, Err, refl, subst, arith}
+use Rattle.std.proofs.Common.{◌≡◌, ℕ, suc, List, [], ◌∷◌, Option, Some, None, Result, Ok, Err, refl, subst}
 use Rattle.std.proofs.lemmas.List.Elements.{All-append, All-cons, All-nil}
 use Rattle.hex.specs.Hex.{IsBytes}
 use Rattle.aes_block.specs.Aes.{IsKey}
@@ -11,7 +11,7 @@ use Rattle.audit_text.specs.declared.line.KeyLine.TheVariants.{Group, Sak}
 use Rattle.audit_text.proofs.Public.{key_read_fits}
 use Rattle.packet_verdicts.specs.Groups.{GroupKeys, derived_keys}
 use Rattle.trace_text.specs.declared.fault.TextFault.{TextFault}
-use Rattle.key_ring.specs.Rings.{AreKeyed, LineFault, Ring, ring_by, ring_from, with_line}
+use Rattle.key_ring.specs.Rings.{AreKeyed, Ring, ring_by, ring_from, with_line}
 use Rattle.key_ring.proofs.DerivedKeys.{AreBlocks, kek-is-key}
 
 octets-from : (xs : List ℕ) → IsBytes xs → AreOctets xs

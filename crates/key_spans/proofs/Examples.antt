@@ -1,6 +1,6 @@
 -- The law on the keys of spans at work: a legal run of two stations, in which alice makes a second key,
 -- begins it, and retires the first one. And a definition that forgets so, which the law refuses.
-use Rattle.std.proofs.Common.{◌≡◌, ◌∙◌, ℕ, Bool, true, false, List, [], ◌∷◌, Option, Some, None, refl, sym}
+use Rattle.std.proofs.Common.{◌≡◌, ◌∙◌, ℕ, Bool, true, false, List, [], ◌∷◌, Some, None, refl, sym}
 use Rattle.std.specs.Prelude.{option_map}
 use Rattle.std.specs.List.{filter}
 use Rattle.lan_base.specs.declared.association_number.AssociationNumber.{AssociationNumber}
@@ -15,7 +15,7 @@ use Rattle.group_safety.proofs.Public.{users, retiring, retires}
 use Rattle.key_spans.specs.declared.span.Span.{Span}
 use Rattle.key_spans.specs.declared.span.Why.TheVariants as whys
 use Rattle.key_spans.specs.Spans.{spans}
-use Rattle.key_spans.specs.Times.{is_held, is_transmitting}
+use Rattle.key_spans.specs.Times.{is_held}
 use Rattle.key_spans.specs.Held.{KeyName, named, under, keys_where, TellOf}
 use Rattle.key_spans.proofs.Runs.{tell-of}
 

@@ -11,15 +11,13 @@ use Rattle.sak_exchange.specs.declared.change.Change.TheVariants as changes
 use Rattle.sak_exchange.specs.declared.change.Why.{Why}
 use Rattle.sak_exchange.specs.declared.offer.Offer.{Offer}
 use Rattle.sak_exchange.specs.declared.held_key.Key.{Key}
-use Rattle.sak_exchange.specs.Histories.{Keying, clock, begun_at, has_begun, install_count}
+use Rattle.sak_exchange.specs.Histories.{Keying, clock, begun_at, has_begun}
 use Rattle.sak_exchange.specs.Histories as keyings
 use Rattle.sak_exchange.specs.Held.{KeepsRules, received, ends, held, shown, latest, old, transmitting, is_latest, is_retire_time_ago}
 use Rattle.sak_exchange.specs.Beginning.{Beginning, retired}
 use Rattle.sak_exchange.specs.Lives.{apart}
 use Rattle.sak_exchange.specs.Outcomes.{beginning}
-use Rattle.sak_exchange.proofs.Public.{by_test, shape, none, one, two, latest-none, latest-one, latest-two}
-use Rattle.sak_exchange.proofs.Public.{keys-ticked, keys-dropped, keys-began, keys-installed, transmitting-is, begun-upto}
-use Rattle.sak_exchange.proofs.Public.{are-two, same-an-equal}
+use Rattle.sak_exchange.proofs.Public.{by_test, shape, none, one, two, latest-none, latest-one, latest-two, keys-ticked, keys-dropped, keys-began, keys-installed, transmitting-is, begun-upto, are-two, same-an-equal}
 use Rattle.mka_station.specs.Tick.{ended, install_changes}
 use Rattle.mka_station.specs.Hearing.{key_taken, take_changes}
 use Rattle.lan_core.specs.Keys.{held_under}

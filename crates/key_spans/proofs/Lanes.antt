@@ -1,6 +1,5 @@
 -- What a fact does to the rows of its station, and to those of others.
-use Rattle.std.proofs.Common.{◌≡◌, ◌≢◌, ◌∙◌, ◌⊎◌, ◌<◌, ℕ, zero, suc, Bool, true, false, List, [], ◌∷◌, ◌++◌, length, Option, Some, None, Ok, Err, refl, sym, ap, subst, inl, inr, arith}
-use Rattle.std.specs.declared.alloc.AllocError.{AllocError}
+use Rattle.std.proofs.Common.{◌≡◌, ◌≢◌, ◌∙◌, ◌⊎◌, ◌<◌, ℕ, zero, suc, Bool, true, false, List, [], ◌∷◌, ◌++◌, length, Option, Some, None, Ok, refl, sym, ap, subst, inl, inr, arith}
 use Rattle.std.specs.Prelude.{◌==◌, ◌&&◌, if◌then◌else◌, map, slice_get}
 use Rattle.std.proofs.lemmas.List.{append-nil}
 use Rattle.lan_base.specs.AssociationNumbers.{same_an}
@@ -17,7 +16,7 @@ use Rattle.key_spans.specs.declared.span.Turn.TheVariants.{Ends, Begins, Relieve
 use Rattle.key_spans.specs.declared.span.Why.TheVariants.{Replaced, Retired, Dropped, Restarted}
 use Rattle.key_spans.specs.Spans.{clock_after, opened, touched, turn_by}
 use Rattle.key_spans.specs.Standing.{KeptSpans, Rows, installed_at, row_at, row_in, row_of}
-use Rattle.key_spans.specs.inside.Taking.{AreBy, IsGrownRow, IsKept, IsKeptRow, IsLaneAfter, IsLaneKept, IsOnly, IsPlaced, IsReached, IsRowAfter, IsFactTaken, IsTakenAt, IsTouched, TakesAt, installs}
+use Rattle.key_spans.specs.inside.Taking.{AreBy, IsGrownRow, IsKeptRow, IsLaneAfter, IsOnly, IsPlaced, IsReached, IsRowAfter, IsFactTaken, IsTakenAt, TakesAt, installs}
 use Rattle.key_spans.proofs.Rows.{same-place}
 
 -- ---- one row of four
@@ -107,39 +106,12 @@ kept-by at true old new is = is
 kept-by at false old new same = λ all by is.
     subst (λ (k : Columns Span). IsThinned installed_at all k) (sym same) is
 
-pub kept-lane : (at : ℕ) (fact : Fact) (span : Span) (old new : Rows) → installs at fact ≡ Some span
-    → IsOnly span.number (IsKeptRow span.installed) old new → IsLaneKept at old new
-kept-lane at fact span old new is kept = record {
-  rows_are = λ an. subst (λ n. IsKeptRow n (row_in old an) (row_in new an)) (sym (time at fact is))
-      (kept-by span.installed (same_an span.number an) (row_in old an) (row_in new an)
-      (pick (IsKeptRow span.installed) span.number an old new kept));
-}
-  where
-    first : Option Span → ℕ
-    first None = 0
-    first (Some x) = x.installed
-
-    time : (at : ℕ) (fact : Fact) → installs at fact ≡ Some span → at ≡ span.installed
-    time at (shows.Installed s id a epoch sak) is = ap first is
-    time at _ is = absurd (cc is)
-
 -- ---- a key is touched
 
 pub opens-none : (s : ℕ) (an : AssociationNumber) (at now : ℕ) (fact : Fact) → installs at fact ≡ None
     → opened s an now fact ≡ []
 opens-none s an at now (shows.Installed t id a epoch sak) is = absurd (cc is)
 opens-none s an at now _ is = refl
-
-pub touched-lane : (at : ℕ) (fact : Fact) (old new : Rows) → installs at fact ≡ None
-    → ((an : AssociationNumber) → IsTouched at (turn_by (place fact) an fact) (row_in old an) (row_in new an))
-    → IsLaneAfter (place fact) at fact old new
-touched-lane at fact old new none touched_are = record {
-  rows_are = λ an all by is.
-      subst (λ (o : List Span). IsThinned installed_at (map (touched at (turn_by (place fact) an fact)) all ++ o) (row_in new an))
-      (sym (opens-none (place fact) an at at fact none))
-      (subst (λ (xs : List Span). IsThinned installed_at xs (row_in new an))
-      (sym (append-nil (map (touched at (turn_by (place fact) an fact)) all))) (touched_are an all by is));
-}
 
 -- ---- other stations
 
@@ -273,23 +245,6 @@ taken-whole fact old mid next new reached placed taken clock_is same = record {
 }
 
 -- ---- where there was no memory
-
-pub reached-kept : (old new : KeptSpans) → IsReached old new → IsKept old new
-reached-kept old new reached = record {
-  clock_is = reached.clock_is;
-  rows_are = λ s an all by is.
-      subst (λ (k : Columns Span). IsThinned installed_at all k) (sym (reached.rows_are s an)) is;
-}
-
-pub failed-kept : (fact : Fact) (old mid new : KeptSpans) (o : Option Rows) (error : AllocError) → IsReached old mid
-    → TakesAt fact mid new o (Err error) → IsKept old new
-failed-kept fact old mid new None error reached taken = absurd (cc taken.1)
-failed-kept fact old mid new (Some rows) error reached kept = record {
-  clock_is = kept.clock_is ∙ reached.clock_is;
-  rows_are = λ s an all by is.
-      kept.rows_are s an all (subst (λ (at : Clock). AreBy at.ticks all) (sym reached.clock_is) by)
-      (subst (λ (k : Columns Span). IsThinned installed_at all k) (sym (reached.rows_are s an)) is);
-}
 
 pub none-past : {X : Type 0} (xs : List X) (s : ℕ) → s < length xs → slice_get xs s ≡ None → ⊥
 none-past [] s less none = absurd (omega (arith, less))

@@ -3,24 +3,12 @@ use Rattle.std.proofs.Common.{◌≡◌, ◌≢◌, ℕ, zero, suc, List, [], �
 use Rattle.std.specs.Prelude.{◌⊎◌, Bool, true, false, ◌==◌, slice_get, set, OnOk, OnErr}
 use Rattle.std.proofs.lemmas.Bool.{eqb-true}
 use Rattle.lan_base.specs.declared.association_number.AssociationNumber.{AssociationNumber}
-use Rattle.lan_base.specs.declared.association_number.AssociationNumber.TheVariants.{An0, An1, An2, An3}
 use Rattle.std.specs.declared.alloc.AllocError.{AllocError}
 use Rattle.lan_core.specs.declared.fact.Fact.{Fact}
 use Rattle.lan_core.specs.Run.{place}
 use Rattle.key_spans.specs.declared.clock.Clock.{Clock}
-use Rattle.key_spans.specs.Standing.{KeptSpans, Rows, no_rows, row_at, row_in, row_of}
+use Rattle.key_spans.specs.Standing.{KeptSpans, Rows, row_at, row_in, row_of}
 use Rattle.key_spans.specs.inside.Taking.{IsKeptRow, IsLaneAfter, IsLaneKept, TakesAt}
-
--- rows of nothing behind others change no row
-pub row-pushed : (lanes : List Rows) (s : ℕ) (an : AssociationNumber)
-    → row_at (lanes ++ no_rows ∷ []) s an ≡ row_at lanes s an
-row-pushed [] zero An0 = refl
-row-pushed [] zero An1 = refl
-row-pushed [] zero An2 = refl
-row-pushed [] zero An3 = refl
-row-pushed [] (suc s) an = refl
-row-pushed (x ∷ lanes) zero an = refl
-row-pushed (x ∷ lanes) (suc s) an = row-pushed lanes s an
 
 pub set-here : {A : Type 0} (xs : List A) (s : ℕ) (x y : A) → slice_get xs s ≡ Some x
     → slice_get (set xs s y) s ≡ Some y
@@ -35,14 +23,6 @@ set-others (z ∷ xs) zero zero y apart = absurd (apart refl)
 set-others (z ∷ xs) zero (suc t) y apart = refl
 set-others (z ∷ xs) (suc s) zero y apart = refl
 set-others (z ∷ xs) (suc s) (suc t) y apart = set-others xs s t y (λ e. apart (ap suc e))
-
-pub set-same : {A : Type 0} (xs : List A) (s : ℕ) (x : A) → slice_get xs s ≡ Some x → set xs s x ≡ xs
-set-same [] s x e = refl
-set-same {A} (z ∷ xs) zero x e = ap (λ (y : A). y ∷ xs) (some-same e)
-  where
-    some-same : Some z ≡ Some x → x ≡ z
-    some-same e = cc e
-set-same {A} (z ∷ xs) (suc s) x e = ap (λ (ys : List A). z ∷ ys) (set-same xs s x e)
 
 pub same-place : (t s : ℕ) → (t ≡ s) ⊎ (t ≢ s)
 same-place t s = go (t == s) refl

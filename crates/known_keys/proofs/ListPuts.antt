@@ -13,8 +13,8 @@ use Rattle.lan_base.specs.declared.association_number.AssociationNumber.TheVaria
 use Rattle.lan_base.specs.AssociationNumbers.{number_of}
 use Rattle.known_keys.specs.declared.sender.Sender.{Sender}
 use Rattle.known_keys.specs.declared.sender.Sender.TheVariants.{Any, One}
-use Rattle.known_keys.specs.Maps.{Place, Told, place_cmp, sci_cmp, place_under, sender_of, numbers_at}
-use Rattle.known_keys.specs.inside.Steps.{with_place, IsPutAt, IsToldTo}
+use Rattle.known_keys.specs.Maps.{Place, Told, place_cmp, sci_cmp, sender_of, numbers_at}
+use Rattle.known_keys.specs.inside.Steps.{with_place, IsPutAt}
 use Rattle.known_keys.proofs.SakNumbers.{equal}
 
 -- what an insertion says of what is found
@@ -83,16 +83,6 @@ sender-is Any Any e = refl
 sender-is (One a) (One b) e = ap (λ (x : Sci). One x) (let same : a ≡ b = cc e in same)
 sender-is Any (One b) e = absurd (cc e)
 sender-is (One a) Any e = absurd (cc e)
-
-pub told_to : (sender : Sender) (an : AssociationNumber) (number : ℕ) (old new : Told)
-    → IsPutAt (place_under sender an) number old new → IsToldTo sender an number old new
-told_to sender an number old new put = record {
-  here = put.here;
-  others = λ s a apart. put.others (place_under s a) (λ same. apart (
-    sender-is s sender (ap (λ (p : Place). p.1) same),
-    an-is a an (ap (λ (p : Place). p.0) same),
-  ));
-}
 
 pub on_ok : {T E P Q : Type 0} (r : Result T E) → (P → Q) → OnOk r P → OnOk r Q
 on_ok (Ok x) f p = f p

@@ -66,33 +66,6 @@ both-ways history missed are an = (are.every_named an, are.only_named an)
 
 -- ---- nothing
 
-pub nothing-missed : (missed : Missed)
-    → missed ≡ record {
-      offsets = [];
-      suites = [];
-      wraps = [];
-      named = record { an0 = []; an1 = []; an2 = []; an3 = [] };
-      strange = [];
-    }
-    → IsMissed [] missed
-nothing-missed missed is = subst (λ (m : Missed). IsMissed [] m) (sym is) (record {
-  offsets = λ it. refl;
-  suites = λ it. refl;
-  wraps = λ it. refl;
-  every_named = λ an x i. absurd i;
-  only_named = λ an. none an;
-  strange = λ sci. refl;
-})
-  where
-    no_times : NamedTimes
-    no_times = record { an0 = []; an1 = []; an2 = []; an3 = [] }
-
-    none : (an : AssociationNumber) → IsCoveredBy (times_under no_times an) []
-    none An0 x i = absurd i
-    none An1 x i = absurd i
-    none An2 x i = absurd i
-    none An3 x i = absurd i
-
 -- ---- a key that is set by hand
 
 pub missed-set : (history : List Entry) (sender : Sender) (an : AssociationNumber) (sak : Secret) (missed : Missed)

@@ -104,13 +104,6 @@ there : (saks : List Secret) (sak : Secret) (n : ℕ) (k : Keyed) → Some n ≡
     → number_in saks sak ≡ Some n
 there saks sak n k found kept = sym (kept.numbered sak) ∙ sym found
 
-pub keyed-same : (saks : List Secret) (sak : Secret) (n : ℕ) (k : Keyed) → Some n ≡ number_by k.numbers sak
-    → AreKept saks k → IsKeyed saks sak n k
-keyed-same saks sak n k found kept =
-    let is = there saks sak n k found kept in
-    subst (λ (ss : List Secret). AreKept ss k × (number_in ss sak ≡ Some n) → IsKeyed saks sak n k)
-    (with-some saks sak n is) (λ both. record { kept = both.0; number = both.1 }) (kept, is)
-
 pub not-full : (saks : List Secret) (sak : Secret) (n : ℕ) (k : Keyed) → Some n ≡ number_by k.numbers sak
     → AreKept saks k → most_keys < length (with_key saks (Some sak)) → ⊥
 not-full saks sak n k found kept over =

@@ -1,5 +1,5 @@
 -- What is known of a reader or a writer always or never is known exactly.
-use Rattle.std.proofs.Common.{◌≡◌, ℕ, List, length, take, refl, ap}
+use Rattle.std.proofs.Common.{◌≡◌, ℕ, List, take, refl, ap}
 use Rattle.std.specs.Prelude.{Option, Some, None, Result, Ok, Err, IfOk, OnErr, is_some}
 use Rattle.std.specs.Io.KnownBytes.{Keeps, Appends, Consumes, ReadConsumes, WriteAppends}
 use Rattle.lan_base.specs.Told.{before, after}

@@ -1,6 +1,6 @@
 -- Whether foreign octets are forged.
-use Rattle.std.proofs.Common.{◌≡◌, ◌∙◌, ◌<◌, ℕ, Bool, true, false, cond, List, [], ◌∷◌, length}
-use Rattle.std.proofs.Common.{Some, None, Ok, Err, Result, refl, ap, sym, arith}
+use Rattle.std.proofs.Common.{◌≡◌, ◌∙◌, ◌<◌, ℕ, Bool, true, false, List, [], ◌∷◌, length, Some}
+use Rattle.std.proofs.Common.{None, Ok, Err, Result, refl, ap, sym, arith}
 use Rattle.std.specs.Prelude.{◌&&◌, ◌||◌, not, is_some, is_ok}
 use Rattle.std.specs.List.{list_any}
 use Rattle.std.proofs.lemmas.List.Folds.{list_any-append}
@@ -12,13 +12,11 @@ use Rattle.mka_kdf.specs.Kdf.{ick_of}
 use Rattle.aes_block.specs.Secrets.{secret_octets}
 use Rattle.lan_core.specs.declared.event.Event.TheVariants as events
 use Rattle.lan_core.specs.declared.settings.Settings.{Settings}
-use Rattle.lan_core.specs.declared.stop.Stop.TheVariants.{Forged}
 use Rattle.lan_core.specs.Run.{Run, stations}
 use Rattle.lan_core.specs.Ledgers.{Frame, air}
 use Rattle.lan_core.specs.Lives.{setup_of}
 use Rattle.lan_core.specs.Order.{Exists}
 use Rattle.lan_core.specs.Fresh.{is_forged}
-use Rattle.lan_core.specs.Stops.{stop_of_forgery}
 use Rattle.lan_core.specs.Standing.{in_order}
 use Rattle.lan_core.specs.inside.Judge.{IsJudged}
 use Rattle.lan_core.specs.inside.Repeats.{repeats_octets}
@@ -77,11 +75,6 @@ forged-is settings r s octets lan own put exists right_is =
     let each = any_same (λ p. is_some (right (setup_of settings p) octets)) own
     (λ p. sym (right_is (setup_of settings p) refl refl)) (stations r) (omega (arith, exists)) in
     rw (put, any_in_order (repeats_octets octets) (air r), each) refl
-
-pub forgery-stops : (settings : Settings) (r : Run) (s : ℕ) (octets : List ℕ) (forged : Bool)
-    → is_forged settings r octets ≡ forged
-    → stop_of_forgery settings r (events.Inject s octets) ≡ cond forged (Some (Forged s)) None
-forgery-stops settings r s octets forged is = rw is refl
 
 pub are-forged : (forged own known : Bool) → forged ≡ (own && not known) → own ≡ true → known ≡ false
     → forged ≡ true

@@ -1,12 +1,11 @@
 -- The limits that a run passes.
-use Rattle.std.proofs.Common.{◌≡◌, ◌≢◌, ◌<◌, ◌≤◌, ℕ, Bool, true, false, cond, List, [], ◌∷◌, length, map}
-use Rattle.std.proofs.Common.{Option, Some, None, refl, sym, subst, arith}
+use Rattle.std.proofs.Common.{◌≡◌, ◌≢◌, ◌<◌, ◌≤◌, ℕ, Bool, true, false, cond, List, [], ◌∷◌, length, map, Option, Some, None, refl, sym, subst, arith}
 use Rattle.std.specs.Prelude.{◌==◌, ◌&&◌, ◌||◌, nat_lt, option_map, sum}
 use Rattle.std.specs.List.{list_any}
 use Rattle.std.proofs.lemmas.Bool.{eqb-true, eqb-false, lt-ltb, ltb-true, le-ltb, ltb-false}
 use Rattle.lan_core.specs.declared.stop.Stop.TheVariants.{Limit}
 use Rattle.lan_core.specs.declared.stop.Which.{Which}
-use Rattle.lan_core.specs.declared.stop.Which.TheVariants.{Frames, Octets, Ticks}
+use Rattle.lan_core.specs.declared.stop.Which.TheVariants.{Frames, Octets}
 use Rattle.lan_core.specs.Run.{Run, stations}
 use Rattle.lan_core.specs.Ledgers.{air, Install, installs}
 use Rattle.lan_base.specs.Ranges.{most_ticks, most_frames}
@@ -151,11 +150,3 @@ light-where frames past count seen none =
     let few = not_first (nat_lt most_frames (length frames)) Frames _ (none-of _ none) in
     let light = not_first (nat_lt most_octets (sum (map length frames))) Octets _ few.1 in
     record { few = at_most _ _ few.0; light = at_most _ _ light.0 }
-
-pub ticks-where : (frames : List (List ℕ)) (past count seen : ℕ)
-    → option_map Limit (passed_with frames past count seen) ≡ None → past ≤ most_ticks
-ticks-where frames past count seen none =
-    let few = not_first (nat_lt most_frames (length frames)) Frames _ (none-of _ none) in
-    let light = not_first (nat_lt most_octets (sum (map length frames))) Octets _ few.1 in
-    let ticked = not_first (nat_lt most_ticks past) Ticks _ light.1 in
-    at_most _ _ ticked.0

@@ -303,11 +303,6 @@ pub or-none : (first o : Option Stop) → first ≡ option_or o None → first �
 or-none first None is = is
 or-none first (Some stop) is = is
 
-pub or-keys : (first o later : Option Stop) (stop : Stop) → first ≡ option_or o later → o ≡ Some stop
-    → first ≡ Some stop
-or-keys first None later stop is some = absurd (cc some)
-or-keys first (Some other) later stop is some = cc (is, some)
-
 pub or-later : (first o later : Option Stop) → first ≡ option_or o later → o ≡ None → first ≡ later
 or-later first None later is none = is
 or-later first (Some other) later is none = absurd (cc none)

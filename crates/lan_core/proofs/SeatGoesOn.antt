@@ -1,5 +1,5 @@
 -- The seat of a station goes on with what the station does.
-use Rattle.std.proofs.Common.{◌≡◌, ◌∙◌, ◌+◌, ◌≤◌, ℕ, Bool, true, false, cond, not, ◌&&◌, List, [], ◌∷◌, Some, None, Result, Ok, Err, refl, ap, sym, subst, arith}
+use Rattle.std.proofs.Common.{◌≡◌, ◌∙◌, ◌+◌, ◌≤◌, ℕ, ◌&&◌, List, [], ◌∷◌, Result, Ok, Err, ap, sym, subst, arith}
 use Rattle.std.specs.Prelude.{OnErr, OnOk}
 use Rattle.aes_block.specs.declared.secret.Secret.{Secret}
 use Rattle.mkpdu_codec.specs.declared.announcement.Announcement.{Announcement}

@@ -8,8 +8,6 @@ use Rattle.std.specs.Prelude.{slice_get}
 use Rattle.std.specs.Int.{byte_at, bytes_low_first, bytes_high_first}
 use Rattle.lan_base.specs.Counted.{counted, count_from}
 use Rattle.lan_base.specs.ChaChaDrawn.{four_words, word_octets, chacha_from}
-use Rattle.lan_base.specs.Listed.{list_from}
-use Rattle.lan_base.proofs.Public.{list_from-ends}
 use Rattle.lan_core.specs.Types.{AreSome}
 use Rattle.lan_core.specs.Unstopped.{AreDraws}
 
@@ -89,10 +87,3 @@ at-place [] all n x is = absurd (cc is)
 at-place (y ∷ ys) all zero x is =
     subst (AreSome 16) (some-same is) (All-head (AreSome 16) y ys all)
 at-place (y ∷ ys) all (suc n) x is = at-place ys (All-tail (AreSome 16) y ys all) n x is
-
-pub listed-are : (values : List (List ℕ)) (drawn : ℕ) → All (AreSome 16) values
-    → AreDraws (list_from values drawn)
-listed-are values drawn all = record {
-  shape = λ place draw is. at-place values all (drawn + place) draw is;
-  ends = λ place none. list_from-ends values drawn place none;
-}

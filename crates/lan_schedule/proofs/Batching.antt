@@ -1,7 +1,7 @@
 -- Frames next to each other reach a station, which checked them in batches.
 use Rattle.std.proofs.Common.{◌≡◌, ℕ, ◌+◌, ◌-◌, ◌<◌, ◌≤◌, List, [], ◌∷◌, ◌++◌, sym, subst, refl}
-use Rattle.std.proofs.Common.{length, ap, true, arith}
-use Rattle.std.specs.Prelude.{Result, Ok, Err, Option, Some, None, IfSome, map, option_map, slice_get}
+use Rattle.std.proofs.Common.{length, ap, arith}
+use Rattle.std.specs.Prelude.{Result, Ok, Err, Option, Some, None, IfSome, map, slice_get}
 use Rattle.std.specs.Result.{IsErrAnd}
 use Rattle.lan_base.specs.declared.frame.UserFrame.{UserFrame}
 use Rattle.rx_slots.specs.declared.arrival.Checked.{Checked}
@@ -9,12 +9,10 @@ use Rattle.rx_slots.specs.Answers.{checked}
 use Rattle.rx_slots.specs.Histories.{Receiving, standing_key}
 use Rattle.rx_slots.specs.Slots.{Slots}
 use Rattle.rx_slots.specs.Standing.{StandsFor as SlotsStandFor}
-use Rattle.gcm_frames.specs.Tags.{is_sec}
 use Rattle.lan_core.specs.declared.event.Event.TheVariants.{Deliver}
 use Rattle.lan_core.specs.declared.fact.Fact.{Fact}
 use Rattle.lan_core.specs.declared.settings.Settings.{Settings}
 use Rattle.lan_core.specs.Run.{Run, Happening, Profile, happened, stations}
-use Rattle.lan_core.specs.Ledgers.{Frame, frame_at}
 use Rattle.lan_core.specs.Lives.{receiving}
 use Rattle.lan_core.specs.Expected.{expected}
 use Rattle.lan_core.specs.Standing.{StandsFor as GroupStandsFor}
@@ -29,32 +27,16 @@ use Rattle.lan_schedule.specs.Answers.{answer}
 use Rattle.lan_schedule.specs.Sound.{IsTidy}
 use Rattle.lan_schedule.specs.Reports.{Report}
 use Rattle.lan_schedule.specs.Ends.{Moment}
-use Rattle.lan_schedule.specs.inside.Batching.{IsData, AreData, AreChecked}
-use Rattle.lan_schedule.specs.inside.Batching.{first_answer, rest_answers}
+use Rattle.lan_schedule.specs.inside.Batching.{IsData, AreData, AreChecked, first_answer}
+use Rattle.lan_schedule.specs.inside.Batching.{rest_answers}
 use Rattle.lan_schedule.specs.inside.Comes.{Comes, IsGoing}
 use Rattle.lan_schedule.specs.inside.Recording.{stages_since}
 use Rattle.lan_schedule.specs.inside.Staged.{Did, DidWhere}
-use Rattle.lan_schedule.proofs.Doing.{both-chances, going, span-next, span-done, ends-behind, ends-early}
-use Rattle.lan_schedule.proofs.Doing.{memory-does, nothing-does, handed-on}
+use Rattle.lan_schedule.proofs.Doing.{both-chances, going, span-next, span-done, ends-behind, ends-early, memory-does, nothing-does, handed-on}
 use Rattle.lan_schedule.proofs.OnWay.{as-left}
 use Rattle.lan_schedule.proofs.Recorded.{seats-kept, seats-then}
 
 -- ---- the frames of a batch
-
--- the frame of a number, found by its octets
-pub data-found : (r : Run) (number : ℕ) (octets : List ℕ) → is_sec octets ≡ true
-    → Some octets ≡ option_map (λ (f : Frame). f.octets) (frame_at r number) → IsData r number octets
-data-found r number octets sec is = by (frame_at r number) refl is where
-  by : (o : Option Frame) → frame_at r number ≡ o
-      → Some octets ≡ option_map (λ (f : Frame). f.octets) o → IsData r number octets
-  by None at is = absurd (cc is)
-  by (Some frame) at is =
-      let same : octets ≡ frame.octets = cc is in record {
-        frame = frame;
-        found = at;
-        protected = subst (λ (o : List ℕ). is_sec o ≡ true) same sec;
-        same = same;
-      }
 
 -- one frame more
 pub data-end : (r : Run) (n : ℕ) (frames : List (List ℕ)) (octets : List ℕ) → AreData r n frames

@@ -1,20 +1,15 @@
 -- Which limit bursts would pass first.
-use Rattle.std.proofs.Common.{◌≡◌, ◌<◌, ◌≤◌, ℕ, zero, suc, ◌+◌, ◌-◌, Bool, true, false, List, [], ◌∷◌, length, Some, None}
-use Rattle.std.proofs.Common.{refl, sym, ap, ◌∙◌, inl, inr, arith, drop, get_or, drop-cons, add-one}
-use Rattle.std.specs.Prelude.{option_map, not, nat_lt, map, sum}
+use Rattle.std.proofs.Common.{◌≡◌, ◌<◌, ◌≤◌, ℕ, zero, suc, ◌+◌, ◌-◌, Bool, true, false, List, [], ◌∷◌, length, Some, None, refl, sym, ap, ◌∙◌, inl, inr, arith, drop}
+use Rattle.std.specs.Prelude.{option_map, not, nat_lt}
 use Rattle.std.proofs.lemmas.Bool.{cases_Bool}
 use Rattle.std.proofs.lemmas.List.{length-map}
-use Rattle.std.proofs.lemmas.List.Sums.{sum-map, sum_by-cons}
-use Rattle.data_workers.specs.Workers.{WorkerAt}
 use Rattle.lan_base.specs.Ranges.{most_frames}
 use Rattle.lan_core.specs.Ledgers.{air}
 use Rattle.lan_core.specs.Order.{most_octets}
 use Rattle.lan_core.specs.declared.stop.Which.TheVariants.{Frames, Octets}
-use Rattle.worker_races.specs.Senders.{jobs_of}
 use Rattle.lan_schedule.specs.declared.frames.Put.{Put}
 use Rattle.lan_schedule.specs.declared.stage.Stage.{Stage}
-use Rattle.lan_schedule.specs.Races.{Burst, frames_asked}
-use Rattle.lan_schedule.specs.Races.{limit_of, octets_asked}
+use Rattle.lan_schedule.specs.Races.{Burst, frames_asked, limit_of, octets_asked}
 use Rattle.lan_schedule.specs.World.{Flow, World, air_octets}
 use Rattle.lan_schedule.specs.Lines.{air_excess}
 use Rattle.lan_schedule.specs.Ends.{IsReached}
@@ -106,30 +101,3 @@ past-all [] zero past = refl
 past-all [] (suc i) past = refl
 past-all (x ∷ xs) zero past = absurd (omega arith)
 past-all (x ∷ xs) (suc i) past = past-all xs i (omega arith)
-
-asked-cons : (f : Burst → ℕ) (b : Burst) (later : List Burst)
-    → sum (map f (b ∷ later)) ≡ f b + sum (map f later)
-asked-cons f b later =
-    sum-map f (b ∷ later) ∙ sum_by-cons f b later ∙ ap (λ (n : ℕ). f b + n) (sym (sum-map f later))
-
-pub asked-drop : (f : Burst → ℕ) (bursts : List Burst) (i : ℕ) (b : Burst) → i < length bursts
-    → b ≡ get_or bursts i b
-    → sum (map f (drop i bursts)) ≡ f b + sum (map f (drop (i + 1) bursts))
-asked-drop f bursts i b less is =
-    ap (λ (bs : List Burst). sum (map f bs)) (drop-cons bursts i b less)
-    ∙ asked-cons f (get_or bursts i b) (drop (suc i) bursts)
-    ∙ (λ k. f (sym is k) + sum (map f (drop (sym (add-one i) k) bursts)))
-
-pub asked-past : (f : Burst → ℕ) (bursts : List Burst) (i : ℕ) → length bursts ≤ i
-    → sum (map f (drop i bursts)) ≡ 0
-asked-past f bursts i past = ap (λ (bs : List Burst). sum (map f bs)) (past-all bursts i past)
-
-pub jobs-drop : (workers : List WorkerAt) (i : ℕ) (w : WorkerAt) → i < length workers
-    → w ≡ get_or workers i w → jobs_of (drop i workers) ≡ w.jobs + jobs_of (drop (i + 1) workers)
-jobs-drop workers i w less is =
-    ap jobs_of (drop-cons workers i w less)
-    ∙ (λ k. (sym is k).jobs + jobs_of (drop (sym (add-one i) k) workers))
-
-pub jobs-past : (workers : List WorkerAt) (i : ℕ) → length workers ≤ i
-    → jobs_of (drop i workers) ≡ 0
-jobs-past workers i past = ap jobs_of (past-all workers i past)

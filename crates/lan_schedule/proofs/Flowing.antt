@@ -150,12 +150,6 @@ at-place : (i : ℕ) (frames : List Put) (d : Put) → d ≡ get_or frames i d �
 at-place i frames d is lt = rw (add-one, drop-cons frames i d)
     (ap (λ (p : Put). p ∷ drop (suc i) frames) (sym is))
 
--- so many frames at least
-marked-length : (n : ℕ) (frames : List Put) → AreMarked n frames → n ≤ length frames
-marked-length zero frames h = omega arith
-marked-length (suc n) [] h = absurd h
-marked-length (suc n) (p ∷ others) h = let le = marked-length n others h.1 in omega arith
-
 -- what is due from a place on, where that place came too late
 pub due-late : (lag rounds i : ℕ) (frames : List Put) (d : Put) → d ≡ get_or frames i d
     → i < length frames → rounds - d.at < lag

@@ -1,18 +1,15 @@
 -- Workers are hired, one behind the other, and their race begins.
-use Rattle.std.proofs.Common.{◌≡◌, ◌<◌, ◌+◌, ◌-◌, ◌^◌, ◌==◌, ℕ, zero, suc, Bool, true, false, List, []}
-use Rattle.std.proofs.Common.{◌∷◌, ◌++◌, length, map, take, get_or, cond, Some, None, refl, sym, ap}
-use Rattle.std.proofs.Common.{◌∙◌, subst, append_assoc, append-nil, length-append, add-one, arith}
-use Rattle.std.specs.Prelude.{Option, option_map, slice_get, is_some, All}
+use Rattle.std.proofs.Common.{◌≡◌, ◌<◌, ◌+◌, ◌-◌, ◌^◌, ◌==◌, ℕ, zero, suc, Bool, true, false, List, [], ◌∷◌, ◌++◌, length, map, take, get_or, cond, Some, None, refl, sym, ap, ◌∙◌, subst, append_assoc, append-nil, length-append, add-one, arith}
+use Rattle.std.specs.Prelude.{Option, option_map, slice_get, is_some}
 use Rattle.std.specs.List.{AllByRecursion, range_with_len}
 use Rattle.std.proofs.lemmas.List.{length-map, map-append, take_more}
 use Rattle.std.proofs.lemmas.List.Concat.{flat_map-append}
-use Rattle.std.proofs.lemmas.List.Elements.{All-nil, All-push, recursion_from_All}
+use Rattle.std.proofs.lemmas.List.Elements.{All-push, recursion_from_All}
 use Rattle.std.proofs.lemmas.Option.{get_or_from_slice_get, slice_get_read, slice_get_within, slice_get-map}
 use Rattle.atomic_table.specs.Seated.{TableId}
 use Rattle.lan_base.specs.declared.address.Sci.{Sci}
 use Rattle.lan_base.specs.declared.frame.UserFrame.{UserFrame}
 use Rattle.association_slots.specs.Views.{ControlAt, SeatAt}
-use Rattle.data_workers.specs.declared.entry.Entry.{Entry}
 use Rattle.data_workers.specs.Workers.{HasTable, WorkerAt}
 use Rattle.lan_core.specs.declared.settings.Settings.{Settings}
 use Rattle.lan_core.specs.Claims.{user_at}
@@ -41,8 +38,8 @@ use Rattle.lan_schedule.specs.Lines.{unless_exceeded}
 use Rattle.lan_schedule.specs.Ends.{IsReached}
 use Rattle.lan_schedule.specs.Sound.{IsTidy}
 use Rattle.lan_schedule.specs.Stages.{Says, StandsFor}
-use Rattle.lan_schedule.specs.inside.Beside.{AreHired, BeginsRace, HasEnlisted, HasMoved, HaveRoom}
-use Rattle.lan_schedule.specs.inside.Beside.{HiredAll, WasHired}
+use Rattle.lan_schedule.specs.inside.Beside.{AreHired, BeginsRace, HasEnlisted, HasMoved, HiredAll}
+use Rattle.lan_schedule.specs.inside.Beside.{WasHired}
 use Rattle.lan_schedule.specs.Woven.{worker_of}
 use Rattle.lan_schedule.specs.inside.Beside.{mark_of}
 use Rattle.lan_schedule.specs.inside.Recording.{HasRecorded, StandsSince}
@@ -98,23 +95,11 @@ joined-more settings r (x ∷ ws) w a b c have joined keeps =
 
 -- ---- one worker more
 
-pub moved-itself : (stage : Stage) → HasMoved stage stage
-moved-itself stage = record { same = refl; tables = refl; keeps_up = λ settings r up. up }
-
 pub moved-then : (a b c : Stage) → HasMoved a b → HasMoved b c → HasMoved a c
 moved-then a b c first second = record {
   same = second.same ∙ ap (λ (s : Stage). record s { words = c.words }) first.same;
   tables = second.tables ∙ first.tables;
   keeps_up = λ settings r up. second.keeps_up settings r (first.keeps_up settings r up);
-}
-
-pub hired-none : (stage : Stage) → HiredAll [] stage stage []
-hired-none stage = record {
-  are = refl;
-  seated = refl;
-  fresh = All-nil _;
-  sendable = All-nil _;
-  scis = All-nil _;
 }
 
 pub hired-one : (workers : List Worker) (worker : Worker) (old mid new : Stage)
@@ -327,19 +312,6 @@ begins-same crew mid new true is =
     (ap (λ (s : Stage). s.words) is.2, ap (λ (s : Stage). s.tally) is.2)
 begins-same crew mid new false is =
     (ap (λ (s : Stage). s.words) is.0, ap (λ (s : Stage). s.tally) is.0)
-
-pub room-same : (mid new : Stage) (crew : List WorkerAt) (logs : List (List Entry)) (capacity : ℕ)
-    → HaveRoom mid crew logs capacity → new.words ≡ mid.words → HaveRoom new crew logs capacity
-room-same mid new crew logs capacity room same = record {
-  tables = subst (λ (cs : List ControlAt). All (HasTable (tables_of cs)) crew) (sym same) room.tables;
-  empty = room.empty;
-  room = room.room;
-}
-
-pub enlisted-tables : (workers : List Worker) (old new : Stage) (crew : List WorkerAt)
-    → HasEnlisted workers old new crew → tables_of new.words ≡ tables_of old.words
-enlisted-tables workers old new crew has =
-    ap tables_of (begins-same crew has.mid new true has.begins).0 ∙ has.moved.tables
 
 -- those that were enlisted are hired, in each world for which the group stands
 pub enlisted : (w : World) (workers : List Worker) (old new : Stage) (crew : List WorkerAt)

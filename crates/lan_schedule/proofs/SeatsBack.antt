@@ -62,9 +62,6 @@ in-last s i (x ∷ xs) w here = inr (in-last s i xs w here)
 
 -- ---- they go out
 
-pub nobody-out : (cs : List ControlAt) → OutFor [] cs cs
-nobody-out cs s i out = inr out
-
 -- no seat is out for nobody that was not out before
 pub for-nobody : (old new : List ControlAt) → OutFor [] old new → NoMoreOut old new
 for-nobody old new for_them s i out = elim (for_them s i out) [ inl has ↦ absurd has | inr was ↦ was ]

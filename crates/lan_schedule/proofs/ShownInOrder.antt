@@ -1,12 +1,10 @@
 -- What events of a race show, event by event.
-use Rattle.std.proofs.Common.{◌≡◌, ◌<◌, ◌≤◌, ◌+◌, ℕ, zero, suc, List, [], ◌∷◌, ◌++◌, drop, get_or, length}
-use Rattle.std.proofs.Common.{refl, sym, ap, ◌∙◌, subst, arith, append_assoc, append-nil, add-one, drop-cons}
-use Rattle.std.specs.Prelude.{Some, None}
+use Rattle.std.proofs.Common.{◌≡◌, ◌<◌, ◌≤◌, ◌+◌, ℕ, zero, suc, List, [], ◌∷◌, ◌++◌, drop, get_or, length, refl, sym, ap, ◌∙◌, subst, arith, append_assoc, append-nil, add-one, drop-cons}
 use Rattle.lan_base.specs.declared.frame.Protected.{Protected}
 use Rattle.lan_core.specs.declared.event.Event.{Event}
 use Rattle.lan_core.specs.declared.fact.Fact.{Fact}
-use Rattle.lan_schedule.specs.inside.Weaves.{facts_in, first_kept, frames_behind, kept_behind}
-use Rattle.lan_schedule.specs.inside.Weaves.{rest_kept, shown_in, shown_of}
+use Rattle.lan_schedule.specs.inside.Weaves.{facts_in, frames_behind, kept_behind, shown_in}
+use Rattle.lan_schedule.specs.inside.Weaves.{shown_of}
 
 -- ---- one event more
 
@@ -66,14 +64,3 @@ counted-more before shown more facts is =
     ap (λ (l : List (List Fact)). facts_in before l) is ∙ facts-more before shown facts
 
 -- ---- what is left of what was kept
-
-pub kept-front : (shown rest : List (List Fact)) (facts : List Fact)
-    → first_kept shown ≡ Some facts → rest ≡ rest_kept shown → shown ≡ facts ∷ rest
-kept-front [] rest facts is later = absurd (cc is)
-kept-front (s ∷ shown) rest facts is later =
-    let same : s ≡ facts = cc is in
-    ap (λ (f : List Fact). f ∷ shown) same ∙ ap (λ (l : List (List Fact)). facts ∷ l) (sym later)
-
-pub kept-none : (shown : List (List Fact)) → first_kept shown ≡ None → shown ≡ []
-kept-none [] none = refl
-kept-none (s ∷ shown) none = absurd (cc none)

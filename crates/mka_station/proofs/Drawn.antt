@@ -1,19 +1,15 @@
 -- The draws that a tick takes.
-use Rattle.std.proofs.Common.{◌≡◌, ◌∙◌, ◌&&◌, ℕ, Bool, cond, List, Option, Some, None, is_none, ap}
+use Rattle.std.proofs.Common.{◌≡◌, ◌∙◌, ◌&&◌, ℕ, Bool, cond, List, Option, Some, None, ap}
 use Rattle.lan_base.specs.declared.suite.Suite.{Suite}
 use Rattle.lan_base.specs.Suites.{sak_draws}
 use Rattle.aes_block.specs.declared.secret.Secret.{Secret}
 use Rattle.sak_exchange.specs.declared.due.Seen.{Seen}
 use Rattle.mka_station.specs.Lives.{Member, Entry}
-use Rattle.mka_station.specs.Drawing.{next_sak, sak_of, draws_at, makes_next, is_short}
+use Rattle.mka_station.specs.Drawing.{sak_of, draws_at, makes_next}
 
 pub sak-is : (m : Member) (p : List Entry) (seen : Seen) (nth : ℕ → Option (List ℕ)) (makes : Bool) (suite : Suite) (sak : Option Secret) → makes ≡ makes_next m p seen → suite ≡ m.setup.suite
     → sak ≡ cond makes (Some (sak_of suite nth)) None → sak ≡ cond (makes_next m p seen) (Some (sak_of m.setup.suite nth)) None
 sak-is m p seen nth makes suite sak a b is = is ∙ ap (λ (x : Bool). cond x (Some (sak_of suite nth)) None) a ∙ ap (λ (x : Suite). cond (makes_next m p seen) (Some (sak_of x nth)) None) b
-
-pub short-is : (m : Member) (p : List Entry) (seen : Seen) (nth : ℕ → Option (List ℕ)) (makes : Bool) (suite : Suite) → makes ≡ makes_next m p seen → suite ≡ m.setup.suite
-    → (makes && is_none (next_sak suite nth)) ≡ is_short m p seen nth
-short-is m p seen nth makes suite a b = ap (λ (x : Bool). x && is_none (next_sak suite nth)) a ∙ ap (λ (x : Suite). makes_next m p seen && is_none (next_sak x nth)) b
 
 pub taken-is : (m : Member) (p : List Entry) (seen : Seen) (makes : Bool) (suite : Suite) → makes ≡ makes_next m p seen → suite ≡ m.setup.suite
     → cond makes (sak_draws suite) 0 ≡ draws_at m p seen

@@ -1,5 +1,5 @@
 -- What is mapped of the elements that pass a test, one element more.
-use Rattle.std.proofs.Common.{◌≡◌, ◌<◌, ◌∙◌, ℕ, zero, suc, ◌+◌, None, Some, arith, Bool, true, false, cond, List, [], ◌∷◌, ◌++◌, map, take, length, get_or, ap, refl}
+use Rattle.std.proofs.Common.{◌≡◌, ◌<◌, ◌∙◌, ℕ, zero, suc, ◌+◌, None, arith, Bool, true, false, cond, List, [], ◌∷◌, ◌++◌, map, take, length, get_or, ap, refl}
 use Rattle.std.specs.List.{filter, find, list_any, list_all}
 use Rattle.sak_exchange.proofs.Public.{by_test}
 use Rattle.std.proofs.lemmas.List.Elements.{filter_more}
@@ -15,12 +15,6 @@ map-filter_more f p xs i d l =
     ap (map f) (filter_more p xs i d l) ∙ map-append f (filter p (take i xs)) _ ∙ ap (λ ys. map f (filter p (take i xs)) ++ ys) (map-cond f (p (get_or xs i d)) (get_or xs i d))
 
 -- ---- tests over the first elements of a list
-
-pub find-first : {X : Type 0} (q : X → Bool) (xs : List X) (i : ℕ) (d : X) → i < length xs → find q (take i xs) ≡ None → q (get_or xs i d) ≡ true → find q xs ≡ Some (get_or xs i d)
-find-first q [] i d l none is = absurd (omega arith)
-find-first q (x ∷ xs) zero d l none is = rw is refl
-find-first q (x ∷ xs) (suc i) d l none is =
-    by_test (q x) (λ e. absurd (cc (rw e at none))) (λ e. rw e (find-first q xs i d (omega arith) (rw e at none) is))
 
 pub find-more : {X : Type 0} (q : X → Bool) (xs : List X) (i : ℕ) (d : X) → i < length xs → find q (take i xs) ≡ None → q (get_or xs i d) ≡ false → find q (take (suc i) xs) ≡ None
 find-more q [] i d l none is = absurd (omega arith)

@@ -110,6 +110,3 @@ install-same m p seen any roster =
     by_test (makes_next m p seen)
     (λ e. ap (λ h. install_changes h roster (made m (view m (ticked ∷ p)) seen any)) (quiet-keys m p (none-led m p seen e)))
     (λ e. rw e refl)
-
-pub some-made : (m : Member) (p : List Entry) (seen : Seen) (any : Secret) (sak : Option Secret) → sak ≡ cond (makes_next m p seen) (Some any) None → is_some sak ≡ is_some (made m (view m (ticked ∷ p)) seen any)
-some-made m p seen any sak is = by_test (makes_next m p seen) (λ e. rw (is, e) refl) (λ e. rw (is, e) refl)

@@ -1,8 +1,5 @@
 -- The rows of the peer lists show what a view has of live and potential members.
-use Rattle.std.proofs.lemmas.Option.{slice_get_past}
-use Rattle.std.proofs.lemmas.List.{length-append}
-use Rattle.std.proofs.lemmas.Bool.Decides.{nat_tests}
-use Rattle.std.proofs.Common.{◌≡◌, ◌∙◌, ◌<◌, ◌≤◌, ◌+◌, ◌++◌, length, nat_eq, nat_lt, arith, ℕ, zero, suc, Bool, true, false, cond, not, ◌&&◌, List, [], ◌∷◌, map, slice_get, Option, Some, None, is_some, unwrap_or, ap, sym, refl, subst}
+use Rattle.std.proofs.Common.{◌≡◌, ◌∙◌, ◌<◌, ◌≤◌, ◌+◌, ◌++◌, length, arith, ℕ, zero, suc, Bool, true, false, cond, not, ◌&&◌, List, [], ◌∷◌, map, slice_get, Option, Some, None, is_some, unwrap_or, ap, sym, refl, subst}
 use Rattle.std.specs.List.{filter, filter_map}
 use Rattle.std.specs.Option.{option_map, option_and_then}
 use Rattle.std.specs.List.{find}
@@ -17,7 +14,7 @@ use Rattle.peer_lists.proofs.Public.{by_test, same_mi-equal, same_mi-itself, fin
 use Rattle.mka_station.specs.Lives.{Member, Entry, own, peers_of, candidate_of}
 use Rattle.mka_station.specs.Views.{View, view, speakers, reports}
 use Rattle.mka_station.specs.Announcing.{peer_of}
-use Rattle.mka_station.specs.inside.Rows.{report_of, candidate_in, peer_in, IsShown, RowsUpTo}
+use Rattle.mka_station.specs.inside.Rows.{report_of, candidate_in, peer_in, IsShown}
 
 -- ---- lists
 
@@ -221,20 +218,3 @@ get-last : {A : Type 0} (xs : List A) (x : A) (at : ℕ) → at ≡ length xs �
 get-last [] x at e = rw e refl
 get-last (y ∷ xs) x zero e = absurd (omega arith)
 get-last (y ∷ xs) x (suc at) e = get-last xs x at (omega arith)
-
-pub upto-more : (o : Own) (h : List Peering) (rows : List Row) (n : ℕ) (row : Row) → RowsUpTo o h rows n → row_at o h n ≡ Some row → RowsUpTo o h (rows ++ row ∷ []) (n + 1)
-upto-more o h rows n row u is = record {
-  long = length-append rows (row ∷ []) ∙ ap (λ (k : ℕ). k + 1) u.long;
-  each = λ at l. by_test (nat_eq at n)
-      (λ e. let s : at ≡ n = grind (arith, nat_tests) in get-last rows row at (s ∙ sym u.long) ∙ sym is ∙ ap (row_at o h) (sym s))
-      (λ e. let s : at < n = grind (arith, nat_tests) in get-front rows row at (omega (arith, u.long)) ∙ u.each at s);
-}
-
-row-past : (o : Own) (h : List Peering) (at : ℕ) → length (known o h) ≤ at → row_at o h at ≡ None
-row-past o h at l = row-at-is o h at ∙ ap (option_and_then (λ m. option_map (row_of o h m) (last_accepted o h m))) (slice_get_past (known o h) at l)
-
-pub upto-all : (o : Own) (h : List Peering) (rows : List Row) (n : ℕ) → RowsUpTo o h rows n → length (known o h) ≤ n → (at : ℕ) → slice_get rows at ≡ row_at o h at
-upto-all o h rows n u l at =
-    by_test (nat_lt at n)
-    (λ e. u.each at (grind (arith, nat_tests)))
-    (λ e. let s : n ≤ at = grind (arith, nat_tests) in slice_get_past rows at (omega (arith, u.long)) ∙ sym (row-past o h at (omega arith)))

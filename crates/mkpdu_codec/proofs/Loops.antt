@@ -42,9 +42,6 @@ entries_end front rest octets e s = go s.0 s.1.1 where
 abbrev pub GatheredSoFar : ℕ → Gathered → List ℕ → List ℕ → Type 0
 GatheredSoFar end g rest octets = (n : ℕ) × ((length rest ≤ n) × (gathered n end g rest ≡ gathered (length octets) end nothing octets))
 
-pub gathered_begin : (end : ℕ) (octets : List ℕ) → GatheredSoFar end nothing octets octets
-gathered_begin end octets = (length octets, (omega arith, refl))
-
 -- there is something left that is no ICV Indicator
 abbrev pub Goes : List ℕ → Type 0
 Goes rest = (eqb (length rest) 0 ≡ false) × (is_indicator rest ≡ false)

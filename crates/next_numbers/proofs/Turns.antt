@@ -1,7 +1,7 @@
 -- Each claim that waits has its frame, and no more are emitted than there are.
 use Rattle.std.proofs.Common.{◌≡◌, ◌<◌, ◌≤◌, ◌+◌, ◌==◌, ℕ, zero, suc, Bool, true, false, List, []}
-use Rattle.std.proofs.Common.{◌∷◌, ◌++◌, length, length-append, Option, Some, None, ◌⊎◌, inl}
-use Rattle.std.proofs.Common.{inr, refl, ap, ◌∙◌, subst, arith}
+use Rattle.std.proofs.Common.{◌∷◌, ◌++◌, length, length-append, Option, Some, None, ◌⊎◌, refl, ap}
+use Rattle.std.proofs.Common.{◌∙◌, subst, arith}
 use Rattle.std.specs.Prelude.{cond, is_some, option_map, option_and_then, option_to_list, slice_get}
 use Rattle.std.specs.List.{filter}
 use Rattle.lan_base.specs.declared.frame.UserFrame.{UserFrame}
@@ -22,8 +22,8 @@ use Rattle.lan_core.specs.Lives.{Life, life, receiving, turn_at_tick, transmitti
 use Rattle.lan_core.specs.Claims.{Waiting, waiting, waiting_under, claimed, claimed_by, user_at}
 use Rattle.lan_core.specs.Claims.{frame_by, frame_of_claim}
 use Rattle.lan_core.specs.Expected.{expected, Drawn, drawn_in, tick_facts, reached_facts}
-use Rattle.lan_core.specs.Expected.{reaction_facts, restart_facts, claim_fact}
-use Rattle.lan_core.specs.Expected.{number_fact, lack, emit_facts}
+use Rattle.lan_core.specs.Expected.{reaction_facts, restart_facts, claim_fact, number_fact, lack}
+use Rattle.lan_core.specs.Expected.{emit_facts}
 use Rattle.lan_core.specs.Order.{Exists, IsAllowed, IsSendable}
 use Rattle.lan_core.specs.Legal.{IsStep, IsStepped}
 use Rattle.lan_core.proofs.Public.{mapped, chained, reaction-air}

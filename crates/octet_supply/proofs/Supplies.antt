@@ -2,9 +2,8 @@
 use Rattle.std.proofs.Common.{◌≡◌, ℕ, zero, suc, ◌+◌, ◌-◌, ◌<◌, ◌≤◌, Bool, true, false, List, [], ◌∷◌, ◌++◌, length, take, drop, Option, Some, None, Result, Ok, Err, refl, sym, ap, ◌∙◌, subst, append_assoc, length-append, arith, inl, inr}
 use Rattle.std.proofs.lemmas.List.{append-nil, length-take-le, take-append-drop, take-append-le, take_all}
 use Rattle.std.proofs.lemmas.Bool.{ltb-true, ltb-false}
-use Rattle.std.proofs.lemmas.List.Elements.{All-nil, All-push}
+use Rattle.std.proofs.lemmas.List.Elements.{All-push}
 use Rattle.std.specs.Prelude.{◌≢◌, All, min, nat_lt}
-use Rattle.lan_base.specs.Told.{before}
 use Rattle.lan_base.specs.declared.source.ReadEnd.{ReadEnd}
 use Rattle.lan_base.specs.declared.source.ReadEnd.TheVariants.{Limit, Failed, Memory}
 use Rattle.text_lines.specs.Reading.{most_at_once}
@@ -232,12 +231,6 @@ failed limit text given h left calm s =
     let r = f.counted in
     record { rest = s.rest; told = s.told; whole = f.whole; within = omega (arith, r) }
 
--- what a source had is what it moved, and what it has
-pub told-on : (piece rest : List ℕ) (now : Option (List ℕ)) → Some rest ≡ before piece now
-    → (behind : List ℕ) × (now ≡ Some behind) × (rest ≡ piece ++ behind)
-told-on piece rest None e = absurd (cc e)
-told-on piece rest (Some behind) e = (behind, refl, some-same rest (piece ++ behind) e)
-
 -- ---- at first
 
 -- nothing was given out of a text
@@ -332,16 +325,6 @@ pub record HasLine (limit : ℕ) (text given : List ℕ) (most room : ℕ) (into
   pub none : All (λ o. o ≢ 10) line
   pub counted : length line + room ≡ most
   pub stands : Stands limit text (given ++ line) h left
-
-pub line-none : (limit : ℕ) (text given : List ℕ) (most : ℕ) (into : List ℕ) (h : Held) (left : Option (List ℕ))
-    → Stands limit text given h left → HasLine limit text given most most into into h left
-line-none limit text given most into h left s = record {
-  line = [];
-  appended = sym (append-nil into);
-  none = All-nil (λ (o : ℕ). o ≢ 10);
-  counted = omega arith;
-  stands = subst (λ (l : List ℕ). Stands limit text l h left) (sym (append-nil given)) s;
-}
 
 pub line-more : (limit : ℕ) (text given : List ℕ) (most room room_then octet : ℕ) (into now then : List ℕ)
     (h new : Held) (left left_then : Option (List ℕ))
@@ -532,14 +515,6 @@ fills-past limit text given octets rest old new count c f near wide least none i
           ∙ append-nil old.octets,
       past-none limit text (given ++ old.octets) octets rest old.room f full (omega (arith, wide)),
     )
-
--- a source failed
-pub fills-failed : (limit : ℕ) (text given : List ℕ) (h : Held) (left left_then : Option (List ℕ))
-    → h.past ≡ false → Stands limit text given h left → left_then ≡ left
-    → FillsMore limit text given h.octets h left_then (Err Failed)
-fills-failed limit text given h left left_then calm s same =
-    subst (λ (l : Option (List ℕ)). FillsMore limit text given h.octets h l (Err Failed)) (sym same)
-    (s, refl, failed limit text given h left calm s)
 
 -- nothing was held
 pub fills-none : (limit : ℕ) (text given held : List ℕ) (new : Held) (left : Option (List ℕ))

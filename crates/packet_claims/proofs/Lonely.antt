@@ -1,5 +1,5 @@
 -- A claim with no other seat out.
-use Rattle.std.proofs.Common.{◌≡◌, ℕ, ◌+◌, ◌^◌, ◌<◌, ◌≤◌, Bool, true, false, not, ◌&&◌, ◌||◌, List, [], ◌∷◌, ◌++◌, map, length, get_or, set, Result, Ok, Err, MatchResult, refl, sym, ap, ◌∙◌, subst, inl, inr, ⊎_elim, arith, eq-eqb, length-set, get_or-set_other, get_or-set_same}
+use Rattle.std.proofs.Common.{◌≡◌, ℕ, ◌+◌, ◌^◌, ◌<◌, ◌≤◌, Bool, true, false, not, ◌&&◌, ◌||◌, List, [], ◌∷◌, ◌++◌, length, get_or, set, Result, Ok, Err, MatchResult, refl, sym, ap, ◌∙◌, subst, inl, ⊎_elim, arith, eq-eqb, length-set, get_or-set_other, get_or-set_same}
 use mathlib.Core.Logic.{dite}
 use native.Mathlib.Decide.{ℕ_discrete}
 use Rattle.std.proofs.lemmas.Bool.{and_from, false≢true}
@@ -23,10 +23,6 @@ use Rattle.packet_claims.specs.Claims.{gone_mark, Stays, IsClaim, IsNoKey, IsExh
 use Rattle.packet_claims.specs.declared.answers.Claim.{Claim}
 use Rattle.packet_claims.specs.declared.answers.NoClaim.{NoClaim}
 use Rattle.packet_claims.specs.declared.answers.NoClaim.TheVariants.{NoKey, Exhausted}
-
-in_map : (a : Addition) (xs : List Addition) → In a xs → In (gone_mark a) (map gone_mark xs)
-in_map a [] i = absurd i
-in_map a (x ∷ xs) i = ⊎_elim (λ e. inl (ap gone_mark e)) (λ j. inr (in_map a xs j)) i
 
 knows_more : (reads more : List (ℕ × ℕ)) (epoch : ℕ) (card : Card) → Knows reads epoch card → Knows (reads ++ more) epoch card
 knows_more reads more epoch card k = (k.0, k.1, k.2, k.3, k.4, in_left _ reads more k.5, in_left _ reads more k.6, in_left _ reads more k.7, in_left _ reads more k.8, in_left _ reads more k.9, k.10)

@@ -9,7 +9,6 @@ use Rattle.capture_file.specs.Describing.{described}
 use Rattle.lan_base.specs.Ranges.{most_input}
 use Rattle.capture_file.specs.Pcap.{kept_read}
 use Rattle.capture_file.specs.Records.{IsFileOf}
-use Rattle.text_lines.specs.declared.reading.End.{End}
 use Rattle.text_lines.specs.declared.reading.End.TheVariants.{Refused, Limit, ReadFault, Memory}
 use Rattle.text_lines.specs.declared.unfinished.Unfinished.{Unfinished}
 use Rattle.text_lines.specs.declared.unfinished.Unfinished.TheVariants as unfinished

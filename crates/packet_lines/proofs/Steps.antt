@@ -8,9 +8,7 @@ use Rattle.capture_file.specs.declared.fault.CaptureFault.{CaptureFault}
 use Rattle.capture_file.specs.declared.fault.CaptureFault.TheVariants.{Magic, LinkType, Cut, Length}
 use Rattle.lan_base.specs.Ranges.{most_input}
 use Rattle.capture_file.specs.Pcap.{head_read, kept_read}
-use Rattle.text_lines.specs.declared.reading.End.{End}
 use Rattle.text_lines.specs.declared.reading.End.TheVariants.{Refused, Limit, ReadFault, Memory}
-use Rattle.text_lines.specs.declared.unfinished.Unfinished.{Unfinished}
 use Rattle.text_lines.specs.declared.unfinished.Unfinished.TheVariants as unfinished
 use Rattle.text_lines.specs.Ends.{end_of, unfinished_by}
 use Rattle.packet_lines.specs.Files.{IsHeadCut, IsHeadRefused, IsRecordCut, IsRecordRefused}

@@ -3,7 +3,6 @@ use Rattle.std.proofs.Common.{◌≡◌, ◌≢◌, ◌⊎◌, inl, inr, ⊎_eli
 use Rattle.std.proofs.lemmas.Bool.{and_right, ltb-true, ltb-false, lt-ltb, le-ltb, leb-true, leb-false, eqb-true, eq-eqb, ne_eqb, cases_eq}
 use Rattle.std.proofs.lemmas.List.{get_or-set_same, get_or-set_other}
 use Rattle.std.specs.List.{list_any, find}
-use Rattle.peer_lists.specs.declared.heard.Heard.{Heard}
 use Rattle.peer_lists.specs.declared.sent_numbers.SentNumbers.{SentNumbers}
 use Rattle.lan_base.specs.Timers.{life_time}
 use Rattle.peer_lists.specs.Histories.{Peering, ticked, sent, heard, clock, is_young, Sent, announced, is_number, is_recent, recent, last_sent, may_send, IsCounted}
@@ -97,9 +96,6 @@ pub left-ticked : (ns : List ℕ) (h : List Peering) (i n : ℕ) → get_or ns i
 left-ticked ns h i n e = get-less ns i ∙ ap (λ k. k - 1) e ∙ sym (left-tick (clock h) (find (is_number n) (announced h)))
 
 -- a number that is sent
-
-pub left-heard : (x : Heard) (h : List Peering) (n : ℕ) → left_of (heard x ∷ h) n ≡ left_of h n
-left-heard x h n = refl
 
 left-here : (h : List Peering) (n : ℕ) → left_of (sent n ∷ h) n ≡ life_time
 left-here h n = rw (eq-eqb n n refl) (omega arith)

@@ -49,20 +49,6 @@ end_is a b is = cc is
 
 -- ---- a picture was shown
 
-same_behind : (shown : Status) (end : Result (Unit {0}) AuditEnd) → (shown ≡ Done → ⊥) → shown ≡ status_behind shown end
-same_behind Done end other = absurd (other refl)
-same_behind _ end other = refl
-
-pub shown_whole : (asks : Asks) (view : AuditView) (picture : List ℕ) (old new : Sunk) (status : Status)
-    → Shows picture old new Done → status ≡ status_of_audit (end_seen asks.strict (Ok view))
-    → ShowsSeen asks (Ok view) old new status
-shown_whole asks view picture old new status shows is = inl (picture, Done, shows, is)
-
-pub shown_else : (asks : Asks) (view : AuditView) (picture : List ℕ) (old new : Sunk) (shown : Status)
-    → Shows picture old new shown → (shown ≡ Done → ⊥) → ShowsSeen asks (Ok view) old new shown
-shown_else asks view picture old new shown shows other =
-    inl (picture, shown, shows, same_behind shown (end_seen asks.strict (Ok view)) other)
-
 -- ---- what the status says
 
 module _ (asks : Asks) (view : AuditView) (old new : Sunk) where

@@ -2,10 +2,6 @@
 use Rattle.std.proofs.Common.{◌≡◌, ℕ, ◌+◌, ◌-◌, ◌≤◌, max, map, List, [], ◌∷◌, arith}
 use Rattle.rx_slots.specs.Numbers.{Taken, greatest}
 
-pub greatest-some : (ns : List ℕ) → 1 ≤ greatest ns
-greatest-some [] = omega arith
-greatest-some (n ∷ ns) = let more : 1 ≤ greatest ns = greatest-some ns in omega arith
-
 -- the greatest less the window is the greatest of each less the window
 pub greatest-less : (window : ℕ) (ts : List Taken)
     → max 1 (greatest (map (λ t. t.pn + 1) ts) - window) ≡ greatest (map (λ t. (t.pn + 1) - window) ts)

@@ -5,14 +5,14 @@ use Rattle.std.specs.Prelude.{◌==◌}
 use Rattle.std.specs.Option.{option_map, option_map_or}
 use Rattle.lan_base.specs.declared.address.Mi.{Mi}
 use Rattle.lan_base.specs.Timers.{life_time, retire_time}
-use Rattle.sak_exchange.specs.declared.change.Change.TheVariants.{Dropped, Retired}
+use Rattle.sak_exchange.specs.declared.change.Change.TheVariants.{Dropped}
 use Rattle.sak_exchange.specs.declared.held_key.HeldKey.{HeldKey}
 use Rattle.sak_exchange.specs.declared.latest.Latest.{Latest}
 use Rattle.sak_exchange.specs.declared.held_key.Key.{Key}
 use Rattle.sak_exchange.specs.Histories.{Keying, ticked, installed, began, clock, last_made_at, begun_at, has_begun}
 use Rattle.sak_exchange.specs.Held.{is_retire_time_ago, latest, old, KeepsRules, held}
 use Rattle.sak_exchange.specs.Beginning.{is_long_ago, retired}
-use Rattle.sak_exchange.specs.Outcomes.{dropping, retiring}
+use Rattle.sak_exchange.specs.Outcomes.{dropping}
 use Rattle.sak_exchange.specs.Standing.{State, StandsFor, ticks_since, ticks_since_any, most_ticks, kept_of}
 use Rattle.sak_exchange.specs.inside.States.{counted, aged, ticked_now, retires_now, retired_now, after_retiring, drops_now}
 use Rattle.sak_exchange.proofs.Cases.{by_test}
@@ -93,13 +93,6 @@ cond-held h false o = refl
 
 pub retired-told : (base : ℕ) (own : Mi) (s : State) (h : List Keying) → StandsFor base own true s h → retired_now s ≡ option_map (held h) (retired h)
 retired-told base own s h t = rw (retires-told base own s h t, t.former) (cond-held h (is_over h) (old h))
-
-shown-retired : (h : List Keying) (o : Option Key) → option_to_list (option_map Retired (option_map (held h) o)) ≡ option_to_list (option_map (λ k. Retired (held h k)) o)
-shown-retired h None = refl
-shown-retired h (Some k) = refl
-
-pub retired-changes : (base : ℕ) (own : Mi) (s : State) (h : List Keying) → StandsFor base own true s h → option_to_list (option_map Retired (retired_now s)) ≡ (retiring h).changes
-retired-changes base own s h t = ap (λ (o : Option HeldKey). option_to_list (option_map Retired o)) (retired-told base own s h t) ∙ shown-retired h (retired h)
 
 left-held : (h : List Keying) (b : Bool) (o : Option Key) → cond b None (option_map (held h) o) ≡ option_map (held h) (cond b None o)
 left-held h true o = refl

@@ -8,10 +8,6 @@ use Rattle.server_election.specs.Election.{elected, eligible, least, IsLeast}
 use Rattle.server_election.proofs.Least.{least-nobody, IsLeast-least}
 use Rattle.server_election.proofs.Eligible.{All-from_nobody, nobody-from_All}
 
-pub elected-least : (own : Candidate) (live : List Candidate) → (live ≡ [] → ⊥) → option_map (λ (x : Candidate). x.mi) (least (eligible own live)) ≡ elected own live
-elected-least own [] some = absurd (some refl)
-elected-least own (x ∷ xs) some = refl
-
 identified : (o : Option Candidate) (mi : Mi) → option_map (λ (x : Candidate). x.mi) o ≡ Some mi → (x : Candidate) × (o ≡ Some x) × (x.mi ≡ mi)
 identified None mi is = cc
 identified (Some x) mi is = (x, refl, cc)

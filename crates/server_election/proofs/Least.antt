@@ -1,5 +1,5 @@
 -- What stands for the least of some candidates, and that it is the least.
-use Rattle.std.proofs.Common.{◌≡◌, true, false, List, [], ◌∷◌, ◌++◌, Option, None, Some, refl, sym, ap, inl, inr, arith, option_to_list}
+use Rattle.std.proofs.Common.{◌≡◌, true, false, List, [], ◌∷◌, ◌++◌, Option, None, Some, refl, sym, ap, inl, inr, arith}
 use Rattle.std.proofs.lemmas.List.Elements.{All-nil, All-cons, All-weaker, Contains-append_right}
 use Rattle.std.proofs.lemmas.Bool.{cases_Bool}
 use Rattle.server_election.specs.declared.candidate.Candidate.{Candidate}
@@ -24,10 +24,6 @@ first_of-first_of x y (Some z) =
 -- the first of two stands for both, whoever comes later
 pub least-two : (x y : Candidate) (later : List Candidate) → least (first_of x (Some y) ∷ later) ≡ least (x ∷ y ∷ later)
 least-two x y later = ap Some (sym (first_of-first_of x y (least later)))
-
-pub least-one : (best : Option Candidate) → least (option_to_list best ++ []) ≡ best
-least-one None = refl
-least-one (Some x) = refl
 
 pub least-nobody : (xs : List Candidate) → least xs ≡ None → xs ≡ []
 least-nobody [] none = refl

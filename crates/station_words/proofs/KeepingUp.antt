@@ -1,12 +1,10 @@
 -- The words keep up with the account, call by call.
-use Rattle.std.proofs.Common.{◌≡◌, ℕ, ◌+◌, ◌^◌, Result, Ok, Err, MatchResult, ◌<◌, ◌≤◌, ◌==◌, Bool, true, false, not, ◌&&◌, cond, max}
-use Rattle.std.proofs.Common.{List, [], ◌∷◌, ◌++◌, map, Some, None, refl, sym, ap, ◌∙◌, subst, arith, eq-eqb, ◌⊎◌, inl, inr}
+use Rattle.std.proofs.Common.{◌≡◌, ℕ, ◌+◌, ◌^◌, Result, Ok, Err, MatchResult, ◌<◌, ◌≤◌, ◌==◌, Bool, true, false, not, ◌&&◌, cond, max, List, [], ◌∷◌, ◌++◌, map, Some, None, refl, sym, ap, ◌∙◌, subst, arith, eq-eqb, ◌⊎◌, inl, inr}
 use Rattle.std.proofs.lemmas.Bool.{ne_eqb, lt-ltb, eqb-true, ltb-true, ltb-false}
 use Rattle.std.specs.Prelude.{nat_lt}
 use Rattle.sak_exchange.proofs.Public.{by_test}
 use Rattle.lan_base.specs.declared.association_number.AssociationNumber.{AssociationNumber}
-use Rattle.association_slots.specs.Views.{In, slot, current, newest, absent_after, present_at, IsOpen}
-use Rattle.association_slots.specs.Views.{was_pointed}
+use Rattle.association_slots.specs.Views.{In, slot, current, newest, absent_after, present_at, IsOpen, was_pointed}
 use Rattle.association_slots.specs.Steps.{at_first, looked as looked_at, seated, new_seat, told, above_claims}
 use Rattle.association_slots.specs.Steps.{least_next}
 use Rattle.association_slots.specs.Learned.{Learned, IsNext}
@@ -24,11 +22,11 @@ use Rattle.packet_claims.specs.declared.answers.NoClaim.TheVariants.{NoKey, Exha
 use Rattle.packet_claims.proofs.Public.{given_at, newest_pointed}
 use Rattle.group_safety.specs.Transmitting.{Sending, Carried, now, newest as latest, names as names_it}
 use Rattle.group_safety.specs.Transmitting.{silent_after, installed, may_begin, begun, ended}
-use Rattle.group_safety.specs.Accounts.{Account, blank, next_now, showing, gaining}
+use Rattle.group_safety.specs.Accounts.{Account, next_now, showing, gaining}
 use Rattle.station_words.specs.Counting.{past_claims, greatest_seen}
 use Rattle.station_words.specs.Telling.{KeepUp, HasGained, word_of, sending_of, least_under}
 use Rattle.station_words.specs.inside.Kept.{IsKept}
-use Rattle.station_words.proofs.Keeping.{kept-first, open-now, carded, may-parts, names, and-false, seen-looked}
+use Rattle.station_words.proofs.Keeping.{open-now, carded, may-parts, names, and-false, seen-looked}
 
 pub some-if : {A : Type 0} (b : Bool) (x y : A) → cond b (Some x) None ≡ Some y → (b ≡ true) × (x ≡ y)
 some-if true x y e = (refl, grind arith)
@@ -40,20 +38,6 @@ newest-word (p ∷ ps) = refl
 
 first-parts : (an : AssociationNumber) (epoch : ℕ) (p : Sending) (installs : ℕ) → may_begin an epoch p installs ≡ true → p.epoch < epoch
 first-parts an epoch p installs is = (may-parts an epoch (word_of p) installs is).0
-
-pub up-first : Learned (at_first 1 4096) → KeepUp blank (at_first 1 4096)
-up-first learned = record {
-  learned = learned;
-  first = refl;
-  points = refl;
-  slots = kept-first.slots;
-  open_now = λ is. absurd (cc is);
-  least = λ is. absurd (cc is);
-  later = λ e lt. refl;
-  cards = refl;
-  shows = refl;
-  seen = λ e. omega arith;
-}
 
 -- ---- what was claimed
 

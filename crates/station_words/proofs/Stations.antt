@@ -1,10 +1,7 @@
 -- The words of all stations, of which one takes a step.
-use Rattle.std.proofs.Common.{◌≡◌, ◌≢◌, ◌⊎◌, inl, inr, ⊎_elim, ℕ, zero, suc, ◌+◌, ◌<◌, ◌≤◌, Bool}
-use Rattle.std.proofs.Common.{true, false, cond, List, [], ◌∷◌, ◌++◌, length, set, take, get_or}
-use Rattle.std.proofs.Common.{length-set, Option, Some, None, Result, Ok, Err, refl, ap, sym, ◌∙◌, subst}
-use Rattle.std.proofs.Common.{arith, add-one}
+use Rattle.std.proofs.Common.{◌≡◌, ◌≢◌, ◌⊎◌, inl, inr, ⊎_elim, ℕ, zero, suc, ◌+◌, ◌<◌, ◌≤◌, Bool, true, false, cond, List, [], ◌∷◌, ◌++◌, length, set, take, get_or, length-set, Option, Some, None, Result, Ok, Err, refl, ap, sym, ◌∙◌, subst, arith, add-one}
 use Rattle.std.proofs.lemmas.Bool.{eq-eqb, ne_eqb}
-use Rattle.std.proofs.lemmas.Option.{slice_get_within, slice_get_past}
+use Rattle.std.proofs.lemmas.Option.{slice_get_within}
 use Rattle.std.proofs.Math.Seq.{take-suc}
 use Rattle.std.specs.Prelude.{◌==◌, slice_get, is_some, option_map, option_and_then, Contains}
 use Rattle.atomic_table.specs.Seated.{TableId}
@@ -35,9 +32,7 @@ use Rattle.group_safety.specs.Accounts.{Account, next_now, looked, showing, gain
 use Rattle.group_safety.proofs.Public.{contains-in, in-contains, in-left, in-right, follow-append}
 use Rattle.association_slots.specs.declared.view.ControlView.{ControlView}
 use Rattle.station_words.specs.Telling.{KeepUp, Tells, IsClaimed, HasGained, of_seats, word_of}
-use Rattle.station_words.specs.Ties.{HaveKeptUp, HaveLooked, KeepAhead, KeepCards}
-use Rattle.station_words.specs.Ties.{tables_of, IsTiedBy, AreTiedBy, IsTied, AreTied, IsAheadBy, AreAheadBy}
-use Rattle.station_words.specs.Ties.{AreAhead, AreHeld, FollowsBy, Follows, Followed, CardsFollow}
+use Rattle.station_words.specs.Ties.{HaveKeptUp, HaveLooked, KeepAhead, KeepCards, tables_of, IsTiedBy, AreTiedBy, IsTied, AreTied, IsAheadBy, AreAheadBy, AreAhead, AreHeld, FollowsBy, Follows, Followed, CardsFollow}
 use Rattle.station_words.specs.inside.Cards.{GivesCard, HasCard, card_of_key, card_held}
 use Rattle.station_words.proofs.Carding.{cards-none, cards-other, cards-own, cards-then}
 use Rattle.sak_exchange.specs.declared.held_key.HeldKey.{HeldKey}
@@ -59,26 +54,10 @@ set-each P cs s d others own t v there = ⊎_elim
     (λ (other : (t ≢ s) × (slice_get cs t ≡ Some v)). others t v other.0 other.1)
     (get-set cs s d t v there)
 
--- the tables of the hands, of which one was moved
-pub table-at : (cs : List ControlAt) (tables : List TableId) (p : ℕ) (c : ControlAt) (t : TableId) → tables_of cs ≡ tables → slice_get cs p ≡ Some c → slice_get tables p ≡ Some t → c.table ≡ t
-table-at cs tables p c t here at there = let both : Some c.table ≡ Some t = sym (at-map cs p c at) ∙ (ap (λ (ts : List TableId). slice_get ts p) here ∙ there) in cc both
-  where
-    at-map : (cs : List ControlAt) (p : ℕ) (c : ControlAt) → slice_get cs p ≡ Some c → slice_get (tables_of cs) p ≡ Some c.table
-    at-map [] p c is = absurd (cc is)
-    at-map (x ∷ cs) zero c is = let same : x ≡ c = cc is in ap (λ (v : ControlAt). Some v.table) same
-    at-map (x ∷ cs) (suc p) c is = at-map cs p c is
-
 pub tables-set : (cs : List ControlAt) (p : ℕ) (c d : ControlAt) → slice_get cs p ≡ Some c → d.table ≡ c.table → tables_of (set cs p d) ≡ tables_of cs
 tables-set [] p c d at same = refl
 tables-set (x ∷ cs) zero c d at same = let here : x ≡ c = cc at in ap (λ (t : TableId). t ∷ tables_of cs) (same ∙ ap (λ (v : ControlAt). v.table) (sym here))
 tables-set (x ∷ cs) (suc p) c d at same = ap (λ (ts : List TableId). x.table ∷ ts) (tables-set cs p c d at same)
-
-pub tables-length : (cs : List ControlAt) (tables : List TableId) → tables_of cs ≡ tables → length tables ≡ length cs
-tables-length cs tables here = ap length (sym here) ∙ length-map cs
-  where
-    length-map : (cs : List ControlAt) → length (tables_of cs) ≡ length cs
-    length-map [] = refl
-    length-map (c ∷ cs) = ap suc (length-map cs)
 
 none-more : {A : Type 0} (xs : List A) → length xs ≡ length (xs ++ [])
 none-more [] = refl
@@ -290,10 +269,6 @@ pub no-seat : (cs : List ControlAt) (s : ℕ) (c d : ControlAt) (r : Option Seat
     → IfNone r ((8 < free_number c.view) × (d ≡ c)) → IfNone r (HasNoSeat s cs)
 no-seat cs s c d r at is =
     none-map r _ (HasNoSeat s cs) (λ both. subst (λ o. IfSome o (λ (x : ControlAt). 8 < free_number x.view)) (sym at) both.0) is
-
--- behind the last station there is none
-pub no-seat-behind : (cs : List ControlAt) (s : ℕ) → length cs ≤ s → HasNoSeat s cs
-no-seat-behind cs s le = rw (slice_get_past cs s le) tt
 
 pub has-joined : (cs : List ControlAt) (s : ℕ) (c d : ControlAt) (seat : SeatAt) → slice_get cs s ≡ Some c → d ≡ record c { view = told c.view seat.view } → Learned d.view → HasJoined s seat cs (set cs s d)
 has-joined cs s c d seat at is learned = record {

@@ -1,7 +1,5 @@
 -- The words tell the account, call by call.
-use Rattle.std.proofs.Common.{◌≡◌, ℕ, ◌+◌, ◌^◌, ◌<◌, ◌≤◌, ◌==◌, Bool, true, false, ◌&&◌, cond}
-use Rattle.std.proofs.Common.{List, [], ◌∷◌, ◌++◌, Some, Result, Ok, Err, MatchResult}
-use Rattle.std.proofs.Common.{refl, sym, ap, ◌∙◌, subst, ◌⊎◌, inl, inr, ⊎_elim, arith, eq-eqb, get_or, max}
+use Rattle.std.proofs.Common.{◌≡◌, ℕ, ◌+◌, ◌^◌, ◌<◌, ◌≤◌, ◌==◌, Bool, true, false, ◌&&◌, cond, List, [], ◌∷◌, ◌++◌, Some, Result, Ok, Err, MatchResult, refl, sym, ap, ◌∙◌, subst, ◌⊎◌, inl, inr, ⊎_elim, arith, eq-eqb, get_or, max}
 use Rattle.std.proofs.lemmas.Bool.{ne_eqb, lt-ltb, eqb-true}
 use Rattle.std.specs.Prelude.{nat_lt}
 use Rattle.sak_exchange.proofs.Public.{by_test}
@@ -22,25 +20,13 @@ use Rattle.packet_claims.specs.declared.answers.Claim.{Claim}
 use Rattle.packet_claims.specs.declared.answers.NoClaim.{NoClaim}
 use Rattle.packet_claims.specs.declared.answers.NoClaim.TheVariants.{NoKey}
 use Rattle.lan_core.specs.Expected.{last_number}
-use Rattle.group_safety.specs.Transmitting.{Carried, now}
-use Rattle.group_safety.specs.Transmitting.{silent_after, installed, begun, ended}
-use Rattle.group_safety.specs.Accounts.{Account, blank, next_now, looked, showing, with_claim}
+use Rattle.group_safety.specs.Transmitting.{Carried, now, silent_after, installed, begun, ended}
+use Rattle.group_safety.specs.Accounts.{Account, next_now, looked, showing, with_claim}
 use Rattle.station_words.specs.Counting.{past_claims, greatest_seen}
 use Rattle.station_words.specs.Telling.{KeepUp, OfSeats, of_seats, Tells, IsClaimed, word_of}
 use Rattle.station_words.specs.inside.Kept.{IsKept}
-use Rattle.station_words.proofs.Keeping.{none-out, names}
-use Rattle.station_words.proofs.KeepingUp.{up-first, told-now, now-is, names-are, later-now, up-installed}
-use Rattle.station_words.proofs.KeepingUp.{up-begun, up-ended, least-is, next-present, up-back}
-use Rattle.station_words.proofs.KeepingUp.{showing-other}
-
-pub tells-first : Learned (at_first 1 4096) → Tells blank (at_first 1 4096)
-tells-first learned = record {
-  all_in = none-out;
-  keep_up = up-first learned;
-  next = λ is. absurd (cc is);
-  low = λ a i. absurd i;
-  claims = λ e pn. refl;
-}
+use Rattle.station_words.proofs.Keeping.{names}
+use Rattle.station_words.proofs.KeepingUp.{told-now, now-is, names-are, later-now, up-installed, up-begun, up-ended, least-is, next-present, up-back, showing-other}
 
 -- no addition met a later epoch
 none-met : (an : AssociationNumber) (e f : ℕ) (xs : List Addition) → ((a : Addition) → In a xs → a.met ≤ f) → f < e → count (met an e) xs ≡ 0

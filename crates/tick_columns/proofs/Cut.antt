@@ -1,6 +1,6 @@
 -- Columns of items, one behind another.
 use Rattle.std.proofs.Common.{◌≡◌, ◌≢◌, ◌∙◌, ◌<◌, ◌≤◌, ◌+◌, ◌*◌, ◌/◌, ℕ, zero, suc, List, [], ◌∷◌, ◌++◌, length, All, refl, sym, ap, subst, arith, append_assoc}
-use Rattle.std.proofs.Math.Nat.{div-div-eq-div-mul, le-div_iff_mul-le, div-le_of_le-mul, div-mul-le_self}
+use Rattle.std.proofs.Math.Nat.{div-div-eq-div-mul, div-mul-le_self}
 use Rattle.std.proofs.lemmas.Nat.{le-div}
 use Rattle.std.proofs.lemmas.List.{append-nil, length-append}
 use Rattle.std.proofs.lemmas.List.Elements.{All-nil, All-cons, All-head, All-tail, All-append, All-weaker}

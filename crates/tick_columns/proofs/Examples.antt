@@ -1,5 +1,5 @@
 -- Values of the definitions. The items are numbers, which are their own times.
-use Rattle.std.proofs.Common.{◌≡◌, ◌<◌, ◌/◌, ℕ, List, [], ◌∷◌, All, Some, None, refl, arith}
+use Rattle.std.proofs.Common.{◌≡◌, ◌<◌, ◌/◌, ℕ, [], ◌∷◌, Some, refl, arith}
 use Rattle.std.proofs.lemmas.List.Elements.{All-nil, All-cons}
 use Rattle.tick_columns.specs.declared.column.Column.{Column}
 use Rattle.tick_columns.specs.Columns.{AreColumns, IsColumn, Columns, columns}

@@ -6,7 +6,7 @@ use Rattle.std.proofs.lemmas.Bool.{eqb-true}
 use Rattle.std.proofs.lemmas.List.{append-nil, length-append}
 use Rattle.std.proofs.lemmas.List.Elements.{All-nil, All-append, All-weaker}
 use Rattle.tick_columns.specs.declared.column.Column.{Column}
-use Rattle.tick_columns.specs.Columns.{AreColumns, IsColumn, IsLast, IsThinned, Columns, columns}
+use Rattle.tick_columns.specs.Columns.{AreColumns, IsColumn, IsThinned, Columns, columns}
 use Rattle.tick_columns.specs.inside.Joining.{IsWidened, IsWider, both, joined, joined_to, renewed, renewed_latest}
 use Rattle.tick_columns.proofs.Cut.{IsApart, all-last, apart, behind, both-column, div-less, in-column, one-column, wider-column, wider-le}
 

@@ -40,8 +40,5 @@ pub then_more : (old now new more : List ℕ) → Grew old now → new ≡ now +
 then_more old now new more before e =
     (before.0 ++ more, e ∙ ap (λ xs. xs ++ more) before.1 ∙ append_assoc old before.0 more)
 
-pub then_same : (old now new : List ℕ) → Grew old now → new ≡ now → Grew old new
-then_same old now new before e = (before.0, e ∙ before.1)
-
 pub then_grew : (old now new : List ℕ) → Grew old now → Grew now new → Grew old new
 then_grew old now new before after = then_more old now new after.0 before after.1

@@ -368,34 +368,11 @@ known-by names name o is some =
     ap (λ b. cond b (Some names) (kept_if (nat_lt (length names) most_named) (names ++ name ∷ [])))
     (ap is_some (sym is) ∙ some)
 
-pub not-known : (names : List (List ℕ)) (name : List ℕ) (o : Option ℕ) → o ≡ station_of names name
-    → is_some o ≡ false → station_of names name ≡ None
-not-known names name None is none = sym is
-not-known names name (Some s) is none = absurd (cc none)
-
-pub with-room : (names : List (List ℕ)) (name : List ℕ) → station_of names name ≡ None
-    → length names < most_named → grown_by names (Some name) ≡ Some (names ++ name ∷ [])
-with-room names name none room =
-    ap (λ o. cond (is_some o) (Some names) (kept_if (nat_lt (length names) most_named) (names ++ name ∷ []))) none
-    ∙ ap (λ b. kept_if b (names ++ name ∷ [])) (lt-ltb (length names) most_named room)
-
-pub without-room : (names : List (List ℕ)) (name : List ℕ) → station_of names name ≡ None
-    → length names ≡ most_named → grown_by names (Some name) ≡ None
-without-room names name none full =
-    ap (λ o. cond (is_some o) (Some names) (kept_if (nat_lt (length names) most_named) (names ++ name ∷ []))) none
-    ∙ ap (λ n. kept_if (nat_lt n most_named) (names ++ name ∷ [])) full
-
 pub answered-under : (names : List (List ℕ)) (octets : List ℕ) (now : List (List ℕ))
     (r : Result Fact FactError) (o p : Option (List (List ℕ))) → p ≡ o
     → Answered names octets now r o → Answered names octets now r p
 answered-under names octets now r o p same is =
     subst (λ o. Answered names octets now r o) (sym same) is
-
-pub answered-at : (names : List (List ℕ)) (octets : List ℕ) (now then : List (List ℕ))
-    (r : Result Fact FactError) (o : Option (List (List ℕ))) → now ≡ then
-    → Answered names octets then r o → Answered names octets now r o
-answered-at names octets now then r o same is =
-    subst (λ now. Answered names octets now r o) (sym same) is
 
 -- a line under a name that is known
 pub answered-again : (names items seen shown : List (List ℕ)) (octets name word : List ℕ)

@@ -12,7 +12,7 @@ use Rattle.gcm_frames.specs.declared.tag.TagRefusal.{TagRefusal}
 use Rattle.gcm_frames.specs.Tags.{tag_text}
 use Rattle.lan_core.specs.declared.fact.Fact.{Fact}
 use Rattle.trace_text.specs.Words.{is_word}
-use Rattle.transcript.specs.Words.{Word, spelled, Fits, words, an_word, key_words, server_word, secret_word, cause_text, causes, frame_text, secs, why_words, whys, verdict_words, lack_words, lacks}
+use Rattle.transcript.specs.Words.{Word, spelled, Fits, words, an_word, server_word, secret_word, cause_text, causes, frame_text, secs}
 use Rattle.transcript.specs.Words as Words
 use Rattle.transcript.specs.Rendering.{AllFit}
 use Rattle.transcript.specs.inside.Reading.{Tree, says, text, only, station, number, an, member, key, server, secret, cause, sec, tag, spoken, octets, nothing, parted, taken, after, key_of, ended, last_of, last_octets, station_of, number_of, an_of, member_of, server_of, secret_of, octets_of, said_by, tags, and_then, kept_if, along}

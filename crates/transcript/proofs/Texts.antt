@@ -57,9 +57,6 @@ joined_lacks c apart [] o = All-nil (λ octet. (octet == c) ≡ false)
 joined_lacks c apart (word ∷ others) o =
     All-append (λ octet. (octet == c) ≡ false) word (spaced others) o.0 (spaced_lacks c apart others o.1)
 
-pub joined_splits : (word : List ℕ) (ws : List (List ℕ)) → AllLack 32 (word ∷ ws) → slice_split is_space (joined (word ∷ ws)) ≡ word ∷ ws
-joined_splits word ws o = split_words word ws o.0 o.1
-
 -- the first word of a fact, and the others
 abbrev first : List Word → Word
 first [] = text []

@@ -1,39 +1,21 @@
 -- How judging comes to its end, and what noting a fact is to a taker of facts.
-use Rattle.std.proofs.Common.{◌≡◌, ℕ, List, Ok, Err, inl, sym, subst}
+use Rattle.std.proofs.Common.{◌≡◌, ℕ, List, Ok, Err}
 use Rattle.lan_core.specs.declared.fact.Fact.{Fact}
 use Rattle.text_lines.specs.Moments.{Moment}
 use Rattle.text_lines.specs.Reading.{Sourced}
 use Rattle.transcript_reader.specs.Reached.{HasNoOutlet, Reached}
-use Rattle.transcript_reader.specs.Taking.{TakesFact}
 use Rattle.transcript_reader.specs.Transcripts.{EndsReading}
 use Rattle.text_lines.specs.declared.unfinished.Unfinished.{Unfinished}
 use Rattle.text_lines.specs.declared.unfinished.Unfinished.TheVariants as ends
 use Rattle.transcript_reader.proofs.Public.{answers-as, ends-as, not-begun}
-use Rattle.transcript_check.specs.declared.fault.CheckError.{CheckError}
 use Rattle.transcript_check.specs.declared.fault.CheckError.TheVariants.{Refused, Memory}
 use Rattle.transcript_check.specs.declared.fault.CheckFault.{CheckFault}
 use Rattle.transcript_check.specs.declared.verdict.Verdict.{Verdict}
-use Rattle.transcript_check.specs.Judged.{error_of_taking}
 use Rattle.transcript_check.specs.Standing.{IsVerdict, Maps, StandsFor, by_epochs}
 use Rattle.transcript_check.specs.Transcripts.{AreJudged, EndsJudging}
-use Rattle.transcript_check.specs.inside.Noting.{Refuses, noted}
-use Rattle.transcript_check.specs.inside.Steps.{IsNoted}
+use Rattle.transcript_check.specs.inside.Noting.{noted}
 
 -- ---- one fact
-
--- it was noted
-pub noted-taken : {K : Type 0} (first now : Moment Maps K) (facts : List Fact) (fact : Fact) (old : Maps) (u v : Unit {0})
-    → IsNoted facts fact old now.taker (Ok u)
-    → TakesFact by_epochs Refuses noted first facts fact now (Ok v)
-noted-taken first now facts fact old u v is = is
-
--- it was not
-pub noted-not : {K : Type 0} (first now : Moment Maps K) (facts : List Fact) (fact : Fact) (old : Maps)
-    (error : CheckError) → StandsFor facts old → now.taker ≡ old → IsNoted facts fact old now.taker (Err error)
-    → TakesFact by_epochs Refuses noted first facts fact now (Err (error_of_taking error))
-noted-not first now facts fact old (Refused why) stands same is =
-    (is.0, subst (λ (m : Maps). StandsFor facts m) (sym same) stands)
-noted-not first now facts fact old Memory stands same is = inl tt
 
 -- ---- a whole transcript
 

@@ -1,5 +1,5 @@
 -- How a transcript that is read comes to its end.
-use Rattle.std.proofs.Common.{◌≡◌, ◌∙◌, ◌+◌, ◌≤◌, ℕ, List, [], ◌∷◌, ◌++◌, length, Some, Result, Ok, Err, refl, sym, ap, subst, arith}
+use Rattle.std.proofs.Common.{◌≡◌, ◌∙◌, ◌+◌, ◌≤◌, ℕ, List, [], ◌∷◌, ◌++◌, length, Some, Result, Ok, Err, refl, ap, subst, arith}
 use Rattle.std.specs.Prelude.{take}
 use Rattle.std.proofs.Math.Nat.{min-eq_left}
 use Rattle.std.proofs.lemmas.List.{length-append}
@@ -18,7 +18,6 @@ use Rattle.transcript_reader.specs.Taking.{Courses, Rule}
 use Rattle.transcript_reader.specs.Transcripts.{AreRead, AreTaken, EndsBy, EndsReading, IsFrontRead, IsRefused, IsTakenFrom}
 use Rattle.transcript_reader.specs.declared.take_error.TakeError.{TakeError}
 use Rattle.transcript_reader.specs.declared.take_error.TakeError.TheVariants.{Refused, Failed, Memory}
-use Rattle.text_lines.specs.declared.unfinished.Unfinished.{Unfinished}
 use Rattle.text_lines.specs.declared.unfinished.Unfinished.TheVariants as ends
 use Rattle.transcript_reader.specs.inside.Lines.{DidLines, Seeing, TookPart, TookTo, beside, why_unfinished}
 
@@ -230,10 +229,3 @@ module _ {F P T K : Type 0} (rule : Rule F) (courses : Courses T K) (Grew Fails 
       let t = r.takes in further old.outlet t.between.outlet new.outlet t.taken.grew t.ends.3.grew
   outlet-grew further (Err lines.Limit) r =
       let t = r.takes in further old.outlet t.between.outlet new.outlet t.taken.grew t.ends.2.grew
-
-pub same-end : {F : Type 0} (r : Result (Unit {0}) (Unfinished F)) (a b : Unfinished F) → r ≡ Err a → r ≡ Err b → a ≡ b
-same-end {F} r a b is also = ap error (sym is ∙ also)
-  where
-    error : Result (Unit {0}) (Unfinished F) → Unfinished F
-    error (Ok x) = a
-    error (Err end) = end

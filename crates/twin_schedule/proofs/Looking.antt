@@ -1,7 +1,7 @@
 -- Acts that look at the world, begun from the groups at work.
 use Rattle.std.proofs.Common.{◌≡◌, ◌<◌, ◌≤◌, ℕ, zero, suc, ◌+◌, ◌-◌, List, [], ◌∷◌, ◌++◌, length}
 use Rattle.std.proofs.Common.{sym, ap, ◌∙◌, nat_eq, arith}
-use Rattle.std.specs.Prelude.{◌^◌, Err, IfOk, Ok, Result}
+use Rattle.std.specs.Prelude.{◌^◌}
 use Rattle.std.specs.List.{position_or_len, range_with_len}
 use Rattle.std.specs.Cmp.Lexicographic.{pointwise}
 use Rattle.std.proofs.lemmas.List.{length-map}
@@ -140,9 +140,3 @@ pub places-more : (n : ℕ) → range_with_len 0 (n + 1) ≡ range_with_len 0 n 
 places-more n =
     let e : 0 + n ≡ n = omega arith in
     range-more 0 n ∙ ap (λ k. range_with_len 0 n ++ k ∷ []) e
-
--- what holds of a value by what else does
-pub if-ok : {A E : Type 0} (r : Result A E) (P Q : A → Type 0) → ((x : A) → P x → Q x) → IfOk r P
-    → IfOk r Q
-if-ok (Ok x) P Q more is = more x is
-if-ok (Err e) P Q more is = tt

@@ -22,10 +22,9 @@ use Rattle.trace_acts.specs.Supply.{draws_after, supply_nth}
 use Rattle.trace_acts.specs.Places.{is_elsewhere}
 use Rattle.trace_acts.proofs.Public.{user-at-end}
 use Rattle.twin_schedule.specs.declared.stage.Stage.{Stage}
-use Rattle.twin_schedule.specs.World.{World, Kept, pair_by, pair_of, place, has_spread}
+use Rattle.twin_schedule.specs.World.{World, Kept, pair_by, pair_of, place}
 use Rattle.twin_schedule.specs.Acts.{Act, exceed, happen, look, perform}
-use Rattle.twin_schedule.specs.Lines.{begin, choose, deed_plain, is_over, most_users, send, send_new}
-use Rattle.twin_schedule.specs.Lines.{unless_over}
+use Rattle.twin_schedule.specs.Lines.{begin, choose, deed_plain, is_over, most_users, send, send_new, unless_over}
 use Rattle.twin_schedule.specs.Reports.{Report}
 use Rattle.twin_schedule.specs.Sound.{IsTidy}
 use Rattle.twin_schedule.specs.Ends.{Moment, Ends}
@@ -65,65 +64,6 @@ stands-kept w kept old new stands begun named chosen keyed line twin there draws
       first_party = party-kept First w kept new.first first_spread first;
       second_party = party-kept Second w kept new.second second_spread second;
     }
-
--- so many frames of a group were spread
-pub first-spread : (n : ℕ) (w : World) (old new : Stage) → StandsFor w old
-    → new ≡ record old { first = record old.first { spread = n } }
-    → StandsFor (record w { kept = has_spread First n w.kept }) new
-first-spread n w old new stands is =
-    subst (λ (s : Stage). StandsFor (record w { kept = has_spread First n w.kept }) s) (sym is)
-    (record {
-      begun = stands.begun;
-      named = stands.named;
-      chosen = stands.chosen;
-      keyed = stands.keyed;
-      line = stands.line;
-      twin = stands.twin;
-      there = stands.there;
-      draws = stands.draws;
-      scis = stands.scis;
-      users = stands.users;
-      cuts = stands.cuts;
-      first_party = record {
-        names = stands.first_party.names;
-        senders = stands.first_party.senders;
-        spread = refl;
-      };
-      second_party = record {
-        names = stands.second_party.names;
-        senders = stands.second_party.senders;
-        spread = stands.second_party.spread;
-      };
-    })
-
-pub second-spread : (n : ℕ) (w : World) (old new : Stage) → StandsFor w old
-    → new ≡ record old { second = record old.second { spread = n } }
-    → StandsFor (record w { kept = has_spread Second n w.kept }) new
-second-spread n w old new stands is =
-    subst (λ (s : Stage). StandsFor (record w { kept = has_spread Second n w.kept }) s) (sym is)
-    (record {
-      begun = stands.begun;
-      named = stands.named;
-      chosen = stands.chosen;
-      keyed = stands.keyed;
-      line = stands.line;
-      twin = stands.twin;
-      there = stands.there;
-      draws = stands.draws;
-      scis = stands.scis;
-      users = stands.users;
-      cuts = stands.cuts;
-      first_party = record {
-        names = stands.first_party.names;
-        senders = stands.first_party.senders;
-        spread = stands.first_party.spread;
-      };
-      second_party = record {
-        names = stands.second_party.names;
-        senders = stands.second_party.senders;
-        spread = refl;
-      };
-    })
 
 module _ {K : Type 0} {Took : K → Report → K → Type 0} {Broke : K → Report → K → Unwritten → Type 0}
   where

@@ -360,12 +360,6 @@ module _ {K : Type 0} {Took : K → Report → K → Type 0} {Broke : K → Repo
 
 -- ---- the first station
 
--- a station may start only where a group was chosen
-pub station-keyed : (line : Line) (chosen : Choices) → IsStation line
-    → is_allowed line false chosen ≡ true → is_some chosen.group ≡ true
-station-keyed (lines.Station name sci priority) chosen station allowed = allowed
-station-keyed _ chosen station allowed = absurd station
-
 -- what is kept of two groups in which nothing happened
 pub opens : (w : World) (chosen : Choices) (keyed : Option Keyed) (line : ℕ) (stage : Stage)
     → w ≡ begun_in (waiting line chosen keyed) → is_some chosen.group ≡ true → stage.chosen ≡ chosen → stage.keyed ≡ keyed

@@ -72,6 +72,3 @@ entries-are (w ∷ ws) (d ∷ ds) done new =
     let none = ap length new.0.empty in
     let rest = entries-are ws ds (others-done w d ws ds done) new.1 in
     omega (arith, here, none, rest)
-
-pub hands-many : (ws ds : List WorkerAt) → AreDone ws ds → length ds ≡ length ws
-hands-many ws ds done = done.count

@@ -3,8 +3,7 @@
 -- A worker of alice claims a number; control lets her begin the second key; and the worker claims another, under that.
 -- One of bob is refused a number. And a part of that race in which the two claims of alice's log changed places, which is not
 -- woven so.
-use Rattle.std.proofs.Common.{◌≡◌, ◌⊎◌, inl, inr, ◌<◌, ◌≤◌, ◌+◌, ◌==◌, ◌&&◌, ℕ, zero, suc, Bool, true, false, cond}
-use Rattle.std.proofs.Common.{List, [], ◌∷◌, ◌++◌, length, map, Some, None, refl, sym, ap, ◌∙◌, subst, arith}
+use Rattle.std.proofs.Common.{◌≡◌, ◌⊎◌, inl, inr, ◌<◌, ◌≤◌, ◌+◌, ◌==◌, ◌&&◌, ℕ, zero, suc, Bool, true, false, cond, List, [], ◌∷◌, ◌++◌, length, map, Some, None, refl, sym, ap, ◌∙◌, subst, arith}
 use Rattle.std.proofs.lemmas.Bool.{cases_Bool, eqb-true}
 use Rattle.std.specs.Prelude.{if◌then◌else◌, max, not, replicate, slice_get, slice_index_or}
 use Rattle.std.proofs.lemmas.List.Elements.{All-nil, All-cons}
@@ -16,7 +15,6 @@ use Rattle.lan_base.specs.declared.frame.UserFrame.{UserFrame}
 use Rattle.peer_lists.specs.Acceptance.{refusal, accepted, outcome}
 use Rattle.peer_lists.specs.Peers.{says, hopes, known}
 use Rattle.sak_exchange.specs.Held.{received, latest, old, transmitting}
-use Rattle.sak_exchange.specs.declared.held_key.Key.{Key}
 use Rattle.mka_station.specs.Lives.{peers_of, keys_of, elected}
 use Rattle.mka_station.specs.Views.{view as view_of}
 use Rattle.mka_station.specs.Tick.{tick_turn}
@@ -24,7 +22,7 @@ use Rattle.mka_station.specs.Hearing.{hear_turn}
 use Rattle.association_slots.specs.Cards.{card_words}
 use Rattle.association_slots.specs.Learned.{Learned}
 use Rattle.association_slots.specs.Steps.{new_seat}
-use Rattle.association_slots.specs.Views.{AllIn, ControlAt, In, claimed, count, lost, present_at, slot}
+use Rattle.association_slots.specs.Views.{ControlAt, count, lost, present_at, slot}
 use Rattle.association_slots.specs.declared.card.Card.{Card}
 use Rattle.association_slots.specs.declared.view.Addition.{Addition}
 use Rattle.association_slots.specs.declared.view.ControlView.{ControlView}
@@ -49,10 +47,8 @@ use Rattle.lan_core.specs.Run.{Happening, Profile, Run, happened, stations}
 use Rattle.lan_core.proofs.Public.{legal-more}
 use Rattle.group_safety.specs.Accounts.{Account, account_at, numbers_at, shows_at}
 use Rattle.group_safety.specs.Transmitting.{Carried, Carries, CarriesAt, CarriesIn, names, now, sends as sending}
-use Rattle.group_safety.proofs.Public.{settings, users, alice, bob, first_key, second_key, r11, r14, r16, r17, r18, r19}
-use Rattle.group_safety.proofs.Public.{r20, r21, l20, l21, v16, v20, v21, both, a-user, most_next, next-most}
+use Rattle.group_safety.proofs.Public.{settings, users, alice, bob, first_key, second_key, r11, r14, r16, r17, r18, r19, r20, r21, l20, l21, v16, v20, v21, both, a-user, most_next, next-most}
 use Rattle.worker_races.specs.merge.Merged.{entries_of, merged, numbered}
-use Rattle.worker_races.specs.merge.Marks.{Mark}
 use Rattle.worker_races.specs.merge.Places.{Move, ends, place}
 use Rattle.worker_races.specs.merge.Raced.{epoch_at, epoch_of}
 use Rattle.worker_races.specs.merge.Ranks.{in_order}
@@ -70,10 +66,7 @@ use Rattle.worker_races.specs.Performed.{happenings}
 use Rattle.worker_races.specs.Senders.{IsNew, IsSender}
 use Rattle.worker_races.proofs.Races.{race-is}
 use Rattle.worker_races.proofs.WordsExample.{only}
-use Rattle.worker_races.proofs.RolloverWords.{first-learned, first-words, first_card, joined, moved, none_out, of_all}
-use Rattle.worker_races.proofs.RolloverWords.{of_old, once-back, one_out, reads, second-learned, second-words, second_card}
-use Rattle.worker_races.proofs.RolloverWords.{seen, sends_first, sends_second, two, under_first, under_second, waits}
-use Rattle.worker_races.proofs.RolloverWords.{waits-learned, while-out, words}
+use Rattle.worker_races.proofs.RolloverWords.{first-learned, first-words, first_card, joined, moved, none_out, of_all, of_old, once-back, one_out, reads, second-learned, second-words, second_card, seen, sends_first, sends_second, under_first, under_second, waits, waits-learned, while-out, words}
 
 -- ---- what transmits
 

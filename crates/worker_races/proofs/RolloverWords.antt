@@ -1,8 +1,7 @@
 -- The words of a station that goes from one key to the next, as control knows them: while it transmits under the first
 -- one, of which one number was claimed and shown, and once it transmits under the second. And those of a station that
 -- was given both keys and has begun neither.
-use Rattle.std.proofs.Common.{◌≡◌, ◌⊎◌, inl, inr, ◌<◌, ◌≤◌, ◌+◌, ◌*◌, ◌-◌, ◌==◌, ◌&&◌, ℕ}
-use Rattle.std.proofs.Common.{Bool, true, false, List, [], ◌∷◌, length, refl, sym, ap, ◌∙◌, subst, arith}
+use Rattle.std.proofs.Common.{◌≡◌, ◌⊎◌, inl, inr, ◌<◌, ◌≤◌, ◌+◌, ◌*◌, ◌-◌, ◌==◌, ◌&&◌, ℕ, Bool, true, false, List, [], ◌∷◌, length, refl, sym, ap, ◌∙◌, subst, arith}
 use Rattle.std.proofs.lemmas.Bool.{cases_Bool, eqb-true}
 use Rattle.std.specs.Prelude.{slice_index, replicate}
 use Rattle.lan_base.specs.declared.association_number.AssociationNumber.{AssociationNumber}
@@ -10,8 +9,7 @@ use Rattle.lan_base.specs.declared.association_number.AssociationNumber.TheVaria
 use Rattle.association_slots.specs.Cards.{Knows, card_at, card_in}
 use Rattle.association_slots.specs.Learned.{IsNext, IsTold, Learned, WasNext}
 use Rattle.association_slots.specs.Rule.{Settled, tagged}
-use Rattle.association_slots.specs.Views.{AllIn, In, IsOpen, WasAbsent, WasShut, blank_slot, claimed, count, one}
-use Rattle.association_slots.specs.Views.{present_at, slot}
+use Rattle.association_slots.specs.Views.{In, IsOpen, WasAbsent, WasShut, blank_slot, claimed, count, one, present_at, slot}
 use Rattle.association_slots.specs.declared.card.Card.{Card}
 use Rattle.association_slots.specs.declared.view.Addition.{Addition}
 use Rattle.association_slots.specs.declared.view.ControlView.{ControlView}

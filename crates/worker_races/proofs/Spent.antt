@@ -98,14 +98,6 @@ without-under e n (y ∷ ys) some = elim (cases_Bool ((y.0 == e) && (y.1 == n)))
 claimed-took : (e q : ℕ) (a : Addition) → took e a ≡ true → one (claimed e q a) ≡ one (a.pn == q)
 claimed-took e q a is = let parts = and_parts a.claimed (a.met == e) is in rw (parts.0, parts.1) refl
 
-claimed-not : (e q : ℕ) (a : Addition) → took e a ≡ false → one (claimed e q a) ≡ 0
-claimed-not e q a not = go a.claimed (a.met == e) not
-  where
-    go : (b c : Bool) → (b && c) ≡ false → one (b && (c && (a.pn == q))) ≡ 0
-    go true true not = absurd (cc not)
-    go true false not = refl
-    go false c not = refl
-
 pub told-few : (e : ℕ) (xs : List Addition) (ys : List (ℕ × ℕ))
     → ((q : ℕ) → count (claimed e q) xs ≤ times_in e q ys) → count (took e) xs ≤ times_under e ys
 told-few e [] ys few = omega arith

@@ -1,6 +1,5 @@
 -- What a station does when it hears a frame, or starts again, has its fields in their types.
-use Rattle.std.proofs.Common.{◌≡◌, ◌<◌, ◌≤◌, ◌+◌, ◌^◌, inl, inr, ℕ, Bool, true, false, cond, max, List, [], ◌∷◌, filter}
-use Rattle.std.proofs.Common.{Option, Some, None, Result, Ok, Err, refl, sym, subst, arith, nat_lt, nat_le}
+use Rattle.std.proofs.Common.{◌≡◌, ◌<◌, ◌≤◌, ◌+◌, ◌^◌, inl, inr, ℕ, Bool, true, false, cond, max, List, [], ◌∷◌, filter, Option, Some, None, Result, Ok, Err, refl, sym, subst, arith, nat_lt, nat_le}
 use Rattle.std.specs.List.{list_any}
 use Rattle.std.specs.Prelude.{◌↔◌, ◌||◌, ◌&&◌, length, not, nat_eq, take, option_map, unwrap_or}
 use Rattle.std.specs.Option.{option_or}
@@ -37,7 +36,7 @@ use Rattle.sak_exchange.specs.Unwrapping.{given_sak}
 use Rattle.mka_station.specs.declared.verdict.DropReason.{DropReason}
 use Rattle.mka_station.specs.declared.verdict.DropReason.TheVariants as reasons
 use Rattle.mka_station.specs.declared.verdict.Verdict.TheVariants as verdicts
-use Rattle.mka_station.specs.Hearing.{judged, read_as, of_group, hear_turn, heard_turn, frame_turn, verdict_of, outcome_of, offered, taken_of, take_changes, key_taken, is_accepted, is_listed, offer_at, answer_at, taken_past, follow_at}
+use Rattle.mka_station.specs.Hearing.{judged, read_as, of_group, hear_turn, heard_turn, frame_turn, verdict_of, outcome_of, taken_of, take_changes, key_taken, is_accepted, is_listed, offer_at, answer_at, taken_past, follow_at}
 use Rattle.mka_station.specs.Lives.{Setup, Member, Entry, own, told, peers_of, keys_of}
 use Rattle.mka_station.specs.Lives as lives
 use Rattle.mka_station.specs.Restart.{ending, lost_server}

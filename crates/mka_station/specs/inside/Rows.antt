@@ -35,8 +35,3 @@ pub record IsShown (m : Member) (v : View) (rows : List Row) : Type 0 where
   pub live_peers : map peer_in (live_rows rows) ≡ map (peer_of m v) v.live
   pub potential_members : map (λ r. r.mi) (potential_rows rows) ≡ speakers v.potential
   pub potential_peers : map peer_in (potential_rows rows) ≡ map (peer_of m v) v.potential
-
--- these are the rows below a place
-pub record RowsUpTo (own : Own) (h : List Peering) (rows : List Row) (count : ℕ) : Type 0 where
-  pub long : length rows ≡ count
-  pub each : (at : ℕ) → at < count → slice_get rows at ≡ row_at own h at

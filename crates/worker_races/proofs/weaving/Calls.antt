@@ -190,10 +190,6 @@ abbrev pointed : Option Beginning → List Current
 pointed None = []
 pointed (Some b) = present_at b.key.an b.key.epoch ∷ []
 
-begin-calls : (h : List Keying) (b : Option Beginning) (top : ℕ) (o : Option AssociationNumber) → calls top o (beginning h b).changes ≡ pointed b
-begin-calls h None top o = refl
-begin-calls h (Some b) top o = refl
-
 -- ---- turns
 
 -- the latest key, which has not begun, is later than the one that transmits

@@ -18,7 +18,7 @@ use Rattle.worker_races.specs.merge.Raced.{epoch_of, epoch_at, AreMoves}
 use Rattle.worker_races.specs.merge.Given.{IsPast, IsGiven, AreGiven}
 use Rattle.worker_races.proofs.weaving.PlaceLemmas.{last_of-cases}
 use Rattle.worker_races.proofs.weaving.Agree.{own-of, starts-none}
-use Rattle.worker_races.proofs.weaving.FromRun.{Goes, goes, positive}
+use Rattle.worker_races.proofs.weaving.FromRun.{goes, positive}
 use Rattle.worker_races.proofs.weaving.FromRun as from
 
 module _ (settings : Settings) (users : List UserFrame) (ans : ℕ → ℕ → AssociationNumber) where

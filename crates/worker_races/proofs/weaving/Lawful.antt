@@ -21,7 +21,6 @@ use Rattle.lan_core.specs.Types.{IsSetting}
 use Rattle.lan_core.specs.Order.{Exists, IsWithin, is_event_of}
 use Rattle.lan_core.specs.Legal.{IsStepped, IsLegal, Ahead, none_ahead, with_ahead, is_excuse, is_excused_by, is_replaced, IsExcusedBefore}
 use Rattle.lan_core.proofs.Public.{others-change-none}
-use Rattle.lan_core.proofs.Public.{stays-excused}
 use Rattle.worker_races.specs.merge.Places.{Move, Attempt}
 use Rattle.worker_races.specs.merge.Marks.{Mark, Control, Claim}
 use Rattle.worker_races.specs.merge.Merged.{numbered}

@@ -5,11 +5,8 @@ use Rattle.std.proofs.lemmas.List.Elements.{All-from_recursion}
 use Rattle.std.specs.List.{AllByRecursion}
 use Rattle.std.specs.Prelude.{All}
 use Rattle.worker_races.proofs.weaving.Stable.{each-in_order}
-use Rattle.std.proofs.lemmas.Bool.{cases_Bool, ne_eqb}
-use Rattle.std.proofs.Common.{eqb}
-use Rattle.lan_core.specs.declared.event.Event.{Event}
+use Rattle.std.proofs.lemmas.Bool.{cases_Bool}
 use Rattle.lan_core.specs.declared.event.Event.TheVariants as events
-use Rattle.lan_core.specs.Order.{is_event_of}
 use Rattle.worker_races.specs.declared.merge.step.Step.{Step}
 use Rattle.data_workers.specs.declared.entry.Entry.{Entry}
 use Rattle.data_workers.specs.declared.entry.Entry.TheVariants.{Taken, Refused}
@@ -18,7 +15,7 @@ use Rattle.worker_races.specs.merge.Places.{Move, Attempt, ends, place}
 use Rattle.worker_races.specs.merge.Marks.{Mark, Control, Claim}
 use Rattle.worker_races.specs.merge.Ranks.{inserted, in_order, is_sooner}
 use Rattle.worker_races.specs.merge.Merged.{numbered, rank, merged, sooner, entries_of}
-use Rattle.worker_races.specs.merge.Steps.{move_of, moves_of, station_of, attempt_of, claim_ranks, control_ranks, logs_of, ranks_of, event_at, event_of_rank, IsRankOf}
+use Rattle.worker_races.specs.merge.Steps.{move_of, moves_of, attempt_of, claim_ranks, control_ranks, logs_of, ranks_of, event_at, event_of_rank, IsRankOf}
 use Rattle.worker_races.proofs.weaving.PlaceLemmas.{place-nil, place-here, place-next}
 
 pub place_within : (x : Attempt) (steps : List Step) → place x (moves_of steps) ≤ length steps
@@ -92,16 +89,6 @@ pub same_default : {A : Type 0} (xs : List A) (i : ℕ) (d e : A) → i < length
 same_default [] i d e h = absurd (omega arith)
 same_default (x ∷ xs) zero d e h = refl
 same_default (x ∷ xs) (suc i) d e h = same_default xs i d e (omega arith)
-
--- the station of an event of control, by its place
-pub own-station : (s : ℕ) (e : Event) → s < 256 → is_event_of s e ≡ eqb (station_of e) s
-own-station s (events.Start name sci priority) small = sym (ne_eqb 256 s (λ is. omega (arith, is, small)))
-own-station s (events.Tick station next) small = refl
-own-station s (events.Deliver frame station) small = refl
-own-station s (events.Restart station) small = refl
-own-station s (events.Claim station user pn) small = sym (ne_eqb 256 s (λ is. omega (arith, is, small)))
-own-station s events.Emit small = sym (ne_eqb 256 s (λ is. omega (arith, is, small)))
-own-station s (events.Inject station octets) small = refl
 
 -- ---- all logs
 

@@ -11,15 +11,14 @@ use Rattle.lan_core.specs.Run.{Happening, happened}
 use Rattle.group_safety.proofs.Public.{settings, r11, r12}
 use Rattle.packet_claims.specs.declared.answers.NoClaim.TheVariants.{NoKey}
 use Rattle.data_workers.specs.declared.entry.Entry.TheVariants.{Refused}
-use Rattle.worker_races.specs.merge.Places.{Attempt, Move, ends, place}
+use Rattle.worker_races.specs.merge.Places.{Move, ends, place}
 use Rattle.worker_races.specs.merge.Marks.{Mark, Control, Claim}
 use Rattle.worker_races.specs.merge.Ranks.{in_order}
 use Rattle.worker_races.specs.merge.Merged.{entries_of, merged, numbered}
 use Rattle.worker_races.specs.merge.Raced.{epoch_at, epoch_of}
 use Rattle.worker_races.specs.merge.Steps.{attempt_of, logs_of}
 use Rattle.worker_races.specs.merge.Weaving.{IsWoven, part_of}
-use Rattle.worker_races.proofs.weaving.RaceExample.{ans, bob-sends, bob-waits, frame, logs, moves, newest}
-use Rattle.worker_races.proofs.weaving.RaceExample.{pointed, raced, twice}
+use Rattle.worker_races.proofs.weaving.RaceExample.{ans, bob-sends, bob-waits, frame, logs, moves, newest, pointed, raced, twice}
 use Rattle.worker_races.proofs.weaving.WovenRun.{race-woven}
 
 -- ---- the merged list

@@ -1,4 +1,4 @@
-use Rattle.std.proofs.Common.{◌∙◌, ℕ, List, [], Err, sym, ap, subst}
+use Rattle.std.proofs.Common.{◌∙◌, ℕ, List, [], Err, sym, subst}
 use Rattle.std.proofs.lemmas.Result.{err_from_is_err_and}
 use Rattle.octet_supply.specs.Supplying.{Held, Stands}
 use Rattle.octet_supply.proofs.Public.{stands-new}

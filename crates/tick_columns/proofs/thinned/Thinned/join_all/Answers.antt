@@ -1,4 +1,4 @@
-use Rattle.std.proofs.Common.{◌≡◌, ◌∙◌, List, [], ◌∷◌, ◌++◌, length, take, ap, subst, sym, arith}
+use Rattle.std.proofs.Common.{◌≡◌, ◌∙◌, List, [], ◌∷◌, ◌++◌, take, ap, subst, sym}
 use Rattle.std.proofs.lemmas.List.{take_more, take_all}
 use Rattle.tick_columns.specs.declared.column.Column.{Column}
 use Rattle.tick_columns.specs.inside.Joining.{IsWider}
