@@ -1,20 +1,13 @@
 -- Frames are found by their check values.
-use Rattle.std.proofs.Common.{◌≡◌, ◌∙◌, ◌⊎◌, inl, inr, ℕ, zero, suc, Bool, true, false, ◌||◌, cond, List, [], ◌∷◌, ◌++◌, length, take, drop, Option, Some, None, refl, sym, ap, subst}
+use Rattle.std.proofs.Common.{◌≡◌, ◌∙◌, ◌⊎◌, inl, inr, ℕ, zero, suc, Bool, true, false, ◌||◌, cond, List, [], ◌∷◌, ◌++◌, length, Option, Some, None, refl, sym, ap, subst}
 use Rattle.std.proofs.lemmas.List.Folds.{Any-from_list_any, list_any_at}
 use Rattle.std.proofs.lemmas.Option.{get_or_from_slice_get, slice_get_read, slice_get_within}
 use Rattle.std.specs.Prelude.{nat_eq, slice_get, is_some, ◌&&◌, if◌then◌else◌, IfSome}
 use Rattle.std.specs.List.{list_any}
 use lib.Pointwise.{pointwise, bytes_decides}
-use Rattle.mkpdu_codec.specs.Refusals.{is_mka, is_long_enough, check_place}
-use Rattle.lan_core.specs.inside.Repeats.{begins, begins_at, check_value, first_with, is_so, Checks, IsFound}
+use Rattle.mkpdu_codec.specs.Reading.{check_value}
+use Rattle.lan_core.specs.inside.Repeats.{begins, begins_at, first_with, is_so, Checks, IsFound}
 use Rattle.lan_core.proofs.DrawsLookedUp.{here, number_at, Keeps}
-
-pub valued : (frame check : List ℕ) → is_mka frame ≡ true → is_long_enough frame ≡ true → check ≡ take 16 (drop (check_place frame) frame)
-    → Some check ≡ check_value frame
-valued frame check mka long is =
-    let there = take 16 (drop (check_place frame) frame) in
-    ap (λ (c : List ℕ). Some c) is
-    ∙ sym (ap (λ b. if b && is_long_enough frame then Some there else None) mka ∙ ap (λ b. if b then Some there else None) long)
 
 -- ---- a place is kept by its check value
 

@@ -12,9 +12,9 @@ use Rattle.mkpdu_codec.specs.declared.refusal.Refusal.{Refusal}
 use Rattle.mkpdu_codec.specs.declared.refusal.Refusal.TheVariants.{NotMka, Short, Agility}
 use Rattle.mkpdu_codec.specs.Refusals.{is_mka, is_long_enough, body_length, check_place, sets_of, is_known}
 use Rattle.mkpdu_codec.specs.Fields.{Basics, basic_at}
-use Rattle.mkpdu_codec.specs.Reading.{◌>>=◌, Inner, Gathered, parts_at, basic_or, gathered, nothing, announcement_of, reading}
+use Rattle.mkpdu_codec.specs.Reading.{check_value, ◌>>=◌, Inner, Gathered, parts_at, basic_or, gathered, nothing, announcement_of, reading}
 use Rattle.lan_core.specs.Fresh.{same_spelling}
-use Rattle.lan_core.specs.inside.Repeats.{begins, check_value, repeats_octets}
+use Rattle.lan_core.specs.inside.Repeats.{begins, repeats_octets}
 
 -- ---- a frame reaches to the end of its check value
 

@@ -4,16 +4,17 @@ ghost use Rattle.std.specs.Prelude.{◌≡◌, ◌≤◌, ◌+◌, ◌++◌, ◌
 ghost use Rattle.std.specs.Option.{option_copied};
 ghost use Rattle.std.specs.List.{list_any};
 ghost use Rattle.lan_base.specs.Ranges.{most_frames};
+ghost use Rattle.mkpdu_codec.specs.Reading.{check_value};
 ghost use Rattle.lan_core.specs.Order.{most_octets};
 ghost use Rattle.lan_core.specs.Standing.{octets_at};
 ghost use Rattle.lan_core.specs.inside.Limits.{IsLight};
-ghost use Rattle.lan_core.specs.inside.Repeats.{begins, begins_at, check_value, repeats_octets};
+ghost use Rattle.lan_core.specs.inside.Repeats.{begins, begins_at, repeats_octets};
 
-use crate::check_value::{CHECK_LEN, check_value};
 use crate::checks::Checks;
 use lan_base::Octets;
 use mkpdu_codec::{
-    ReadError, law_octets_behind_are_ignored, law_reading_refuses, law_spelled_is_read, read,
+    CHECK_LEN, ReadError, check_value, law_octets_behind_are_ignored, law_reading_refuses,
+    law_spelled_is_read, read,
 };
 use std::alloc::{AllocError, Global};
 use std::marker::Model;

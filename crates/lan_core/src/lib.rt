@@ -6,7 +6,6 @@
 #![tactic(auto)]
 
 mod air;
-mod check_value;
 mod checks;
 mod claimed;
 mod draw_laws;

@@ -1,10 +1,10 @@
 -- The parts of a frame by its header.
-use Rattle.std.specs.Prelude.{◌&&◌}
-use Rattle.std.proofs.Common.{◌≡◌, ℕ, ◌+◌, ◌-◌, ◌%◌, ◌≤◌, true, leb, eqb, List, length, length-take, length-drop, take, drop, Ok, refl, ap, ◌∙◌, arith}
+use Rattle.std.specs.Prelude.{◌&&◌, if◌then◌else◌}
+use Rattle.std.proofs.Common.{◌≡◌, ℕ, ◌+◌, ◌-◌, ◌%◌, ◌≤◌, true, leb, eqb, List, length, length-take, length-drop, take, drop, Some, None, Ok, refl, sym, ap, ◌∙◌, arith}
 use Rattle.std.proofs.lemmas.Bool.{leb-true, and_parts}
 use Rattle.std.proofs.lemmas.List.{drop-drop}
 use Rattle.mkpdu_codec.specs.Refusals.{is_mka, is_long_enough, body_length, check_place, sets_of}
-use Rattle.mkpdu_codec.specs.Reading.{Inner, parts_at}
+use Rattle.mkpdu_codec.specs.Reading.{Inner, check_value, parts_at}
 
 pub long_enough-32 : (frame : List ℕ) → is_long_enough frame ≡ true → 32 ≤ body_length frame
 long_enough-32 frame e =
@@ -34,3 +34,10 @@ parts_are frame source sets check m w source-is sets-is check-is =
     let check-at : check ≡ take 16 (drop (check_place frame) frame) = check-is ∙ ap (take 16) (drop-drop (body_length frame - 16) 18 frame) in
     let covered : 18 + length sets ≡ check_place frame = ap (λ (x : List ℕ). 18 + length x) sets-is ∙ length-sets_of frame w in
     rw (m, w, source-is, covered, sets-is, check-at) refl
+
+pub valued : (frame check : List ℕ) → is_mka frame ≡ true → is_long_enough frame ≡ true → check ≡ take 16 (drop (check_place frame) frame)
+    → Some check ≡ check_value frame
+valued frame check mka long is =
+    let there = take 16 (drop (check_place frame) frame) in
+    ap (λ (c : List ℕ). Some c) is
+    ∙ sym (ap (λ b. if b && is_long_enough frame then Some there else None) mka ∙ ap (λ b. if b then Some there else None) long)

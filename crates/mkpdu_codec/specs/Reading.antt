@@ -1,5 +1,5 @@
 -- Reading a frame from front to back: what it spells, or the first refusal.
-use Rattle.std.specs.Prelude.{ℕ, zero, suc, ◌-◌, not, ◌||◌, ◌==◌, is_some, if◌then◌else◌, List, length, take, drop, Option, Some, None, Result, Ok, Err}
+use Rattle.std.specs.Prelude.{ℕ, zero, suc, ◌-◌, not, ◌||◌, ◌&&◌, ◌==◌, is_some, if◌then◌else◌, List, length, take, drop, Option, Some, None, Result, Ok, Err}
 use Rattle.lan_base.specs.declared.address.Mac.{Mac}
 use Rattle.mkpdu_codec.specs.declared.announcement.Announcement.{Announcement}
 use Rattle.mkpdu_codec.specs.declared.refusal.Refusal.{Refusal}
@@ -35,6 +35,12 @@ parts_at frame =
       covered = check_place frame;
       check = take check_length (drop (check_place frame) frame);
     })
+
+-- the check value of a frame, where its header says that it has one
+abbrev pub check_value : List ℕ → Option (List ℕ)
+check_value frame =
+    if is_mka frame && is_long_enough frame
+    then Some (take check_length (drop (check_place frame) frame)) else None
 
 -- ---- the sets behind the Basic Parameter Set
 

@@ -31,10 +31,11 @@ pub use laws::{
     law_read_is_spelled, law_reading_refuses, law_spelled_is_read, law_spelled_or_refused,
     law_written_is_spelled,
 };
+pub use layout::CHECK_LEN;
 pub use offset::ConfidentialityOffset;
 pub use peer::{Peer, Peers};
 pub use read_error::ReadError;
-pub use reading::read;
+pub use reading::{check_value, read};
 pub use refusal::Refusal;
 pub use spelled::Spelled;
 pub use wrapped_key::WrappedKey;

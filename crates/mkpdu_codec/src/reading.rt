@@ -5,7 +5,7 @@ ghost use Rattle.mkpdu_codec.specs.declared.announcement.Announcement.{Announcem
 ghost use Rattle.mkpdu_codec.specs.declared.refusal.Refusal.{Refusal};
 ghost use Rattle.mkpdu_codec.specs.declared.read_error.ReadError.TheVariants.{Refused, Memory};
 ghost use Rattle.mkpdu_codec.specs.Frames.{Spells};
-ghost use Rattle.mkpdu_codec.specs.Reading.{parts_at, reading};
+ghost use Rattle.mkpdu_codec.specs.Reading.{check_value, parts_at, reading};
 ghost use Rattle.mkpdu_codec.specs.Refusals.{is_mka, is_long_enough, is_known, body_length, refused};
 ghost use Rattle.mkpdu_codec.specs.inside.Views.{Gives, Answers, inner_of, spelled_of};
 
@@ -61,6 +61,19 @@ fn has_body(frame: &[u8]) -> bool
 {
     let len = eapol_len(frame);
     32 <= len && len % 4 == 0 && HEADER_LEN + len <= frame.len()
+}
+
+/// The check value of a frame, where its header says that it has one. The sets before it are not
+/// read.
+pub fn check_value(frame: &[u8]) -> Option<[u8; CHECK_LEN]>
+    ensures { result ≡ check_value frame.now }
+{
+    if !is_mka_header(frame) || !has_body(frame) {
+        return None;
+    }
+    let (_, behind) = frame.split_at(HEADER_LEN + (eapol_len(frame) - CHECK_LEN));
+    let (check, _) = behind.split_first_chunk::<CHECK_LEN>()?;
+    Some(*check)
 }
 
 /// The parts of a frame, where it is one of MKA and has a body.

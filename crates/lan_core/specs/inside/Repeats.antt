@@ -1,25 +1,17 @@
 -- What foreign octets may repeat, as it is looked up.
-use Rattle.std.specs.Prelude.{◌≡◌, ◌⊎◌, ℕ, nat_eq, Bool, false, ◌&&◌, if◌then◌else◌, List, map, sum, take, drop, length, slice_get, Option, Some, None, option_and_then}
+use Rattle.std.specs.Prelude.{◌≡◌, ◌⊎◌, ℕ, nat_eq, Bool, false, List, map, sum, length, slice_get, Option, Some, None, option_and_then}
 use Rattle.std.specs.List.{starts_with, Contains}
 use Rattle.std.specs.Map.{lookup}
 use Rattle.std.specs.BTreeMap.{is_at}
 use Rattle.std.specs.Ordering.{nat_cmp}
 use Rattle.std.specs.Cmp.Lexicographic.{slice_cmp}
-use Rattle.mkpdu_codec.specs.Sets.{check_length}
-use Rattle.mkpdu_codec.specs.Refusals.{is_mka, is_long_enough, check_place}
-use Rattle.mkpdu_codec.specs.Reading.{reading}
+use Rattle.mkpdu_codec.specs.Reading.{check_value, reading}
 use Rattle.lan_core.specs.Fresh.{same_spelling}
 use Rattle.lan_core.specs.inside.Limits.{IsLight}
 
 -- whether octets repeat a frame, but for what stands after its body
 abbrev pub repeats_octets : List ℕ → List ℕ → Bool
 repeats_octets octets frame = same_spelling octets frame (reading octets) (reading frame)
-
--- the check value of a frame, where its header says that it has one
-abbrev pub check_value : List ℕ → Option (List ℕ)
-check_value frame =
-    if is_mka frame && is_long_enough frame
-    then Some (take check_length (drop (check_place frame) frame)) else None
 
 -- whether something is there and passes a test
 abbrev pub is_so : {A : Type 0} → (A → Bool) → Option A → Bool

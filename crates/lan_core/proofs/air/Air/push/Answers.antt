@@ -2,7 +2,8 @@ use Rattle.std.proofs.Common.{◌≡◌, ◌∙◌, ◌+◌, ◌∷◌, ◌++◌
 use Rattle.std.proofs.lemmas.Grind.{common_steps}
 use Rattle.std.specs.Prelude.{sum}
 use Rattle.lan_core.specs.inside.Limits.{IsLight}
-use Rattle.lan_core.specs.inside.Repeats.{check_value, IsIndex}
+use Rattle.mkpdu_codec.specs.Reading.{check_value}
+use Rattle.lan_core.specs.inside.Repeats.{IsIndex}
 use Rattle.lan_core.proofs.CheckPlaced.{found_more, last_found}
 use Rattle.lan_core.proofs.air.Air.push.Goals as goal
 

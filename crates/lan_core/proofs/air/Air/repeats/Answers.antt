@@ -1,7 +1,7 @@
 use Rattle.std.proofs.Common.{◌≡◌, ◌∙◌, ◌+◌, ◌++◌, List, ℕ, true, length, take, drop, Some, Ok, Err, sym, ap}
 use Rattle.mkpdu_codec.specs.declared.read_error.ReadError.{ReadError}
-use Rattle.mkpdu_codec.specs.Reading.{reading}
-use Rattle.lan_core.specs.inside.Repeats.{begins, check_value, repeats_octets}
+use Rattle.mkpdu_codec.specs.Reading.{check_value, reading}
+use Rattle.lan_core.specs.inside.Repeats.{begins, repeats_octets}
 use Rattle.lan_core.proofs.SpellingRepeats.{any_same, goes_on, read_stands, repeats_begins, repeats_none}
 use Rattle.lan_core.proofs.air.Air.repeats.Goals as goal
 
