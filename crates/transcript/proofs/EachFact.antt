@@ -113,10 +113,10 @@ tick_sound : Sound (Words.text (codes "tick") ∷ []) tick_tree
 tick_sound = λ s at. (refl, λ next. refl)
 
 begin_sound : Sound (Words.text (codes "begin") ∷ []) begin_tree
-begin_sound = λ s id. (refl, λ an. (refl, λ epoch c. refl))
+begin_sound = λ k. (refl, λ epoch c. refl)
 
 install_sound : Sound (Words.text (codes "install") ∷ []) install_tree
-install_sound = λ s id. (refl, λ an. (refl, λ epoch. (refl, λ sak. refl)))
+install_sound = λ k. (refl, λ epoch. (refl, λ sak. refl))
 
 claim_sound : Sound (Words.text (codes "claim") ∷ []) claim_tree
 claim_sound = λ s. (refl, λ an. (refl, λ epoch. (refl, λ pn. refl)))
@@ -133,10 +133,10 @@ plain_sound = (
       λ s mi. refl,
       (
         refl,
-        λ s id. (refl, λ an. refl),
+        λ k. refl,
         (
           refl,
-          λ s id. (refl, λ an. refl),
+          λ k. refl,
           (
             refl,
             begin_sound,

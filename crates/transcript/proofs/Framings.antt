@@ -10,7 +10,7 @@ use Rattle.trace_text.specs.Words.{is_word}
 use Rattle.transcript.specs.declared.fault.FactError.{FactError}
 use Rattle.transcript.specs.declared.fault.FactError.TheVariants.{Unread, Memory}
 use Rattle.transcript.specs.Rendering.{IsOfFrame}
-use Rattle.transcript.specs.inside.Reading.{Tree, says, text, station, sec, octets, nothing, along, and_then, unless, parted, taken, last_octets, number_of, station_of, said_by, tags, an_of, fact_tree, frame_tree, data_tree, plain_tree, arrival_tree, accepted_tree, malformed_tree, missed_tree, late_tree, refused_tree, is_space, fact_in}
+use Rattle.transcript.specs.inside.Reading.{station, sec, Tree, says, text, part, octets, nothing, along, and_then, unless, parted, taken, last_octets, number_of, station_of, said_by, tags, an_of, fact_tree, frame_tree, data_tree, plain_tree, arrival_tree, accepted_tree, malformed_tree, missed_tree, late_tree, refused_tree, is_space, fact_in}
 use Rattle.transcript.specs.inside.Tables.{named}
 use Rattle.transcript.specs.inside.Taking.{IsForFrame}
 use Rattle.transcript.specs.Words.{frame_text, secs}
@@ -50,9 +50,9 @@ frame-frames : (names : List (List ℕ)) (words : List (List ℕ))
     → Frames (along names frame_tree words)
 frame-frames names words =
     follows (taken (number_of 32) words)
-    (λ k. along names (station (λ s. sec (λ protected. octets (λ xs. Framed k.0 s protected xs)))) k.1)
+    (λ k. along names (part station (λ s. part sec (λ protected. octets (λ xs. Framed k.0 s protected xs)))) k.1)
     (λ k. follows (taken (station_of names) k.1)
-    (λ s. along names (sec (λ protected. octets (λ xs. Framed k.0 s.0 protected xs))) s.1)
+    (λ s. along names (part sec (λ protected. octets (λ xs. Framed k.0 s.0 protected xs))) s.1)
     (λ s. follows (taken (named frame_text secs) s.1)
     (λ x. along names (octets (λ xs. Framed k.0 s.0 x.0 xs)) x.1)
     (λ x. mapped (last_octets x.1) (λ xs. Framed k.0 s.0 x.0 xs) (λ xs. tt {0}))))
@@ -111,7 +111,7 @@ module _ (names : List (List ℕ)) (k s : ℕ) where
 data-frames : (names : List (List ℕ)) (words : List (List ℕ)) → Frames (along names data_tree words)
 data-frames names words =
     follows (taken (number_of 32) words)
-    (λ k. along names (station (λ s. arrival_tree (λ arrival. Arrived k.0 s arrival))) k.1)
+    (λ k. along names (part station (λ s. arrival_tree (λ arrival. Arrived k.0 s arrival))) k.1)
     (λ k. follows (taken (station_of names) k.1)
     (λ s. along names (arrival_tree (λ arrival. Arrived k.0 s.0 arrival)) s.1)
     (λ s. arrival-frames names k.0 s.0 s.1))

@@ -1,9 +1,9 @@
 -- The names after a line, and what the line says under them.
-use Rattle.std.proofs.Common.{◌≡◌, ◌≢◌, ◌<◌, ◌≤◌, ◌∙◌, inl, inr, ℕ, zero, suc, Bool, true, false, cond, List, [], ◌∷◌, ◌++◌, length, map, get_or, refl, sym, ap, subst, arith}
+use Rattle.std.proofs.Common.{◌≡◌, ◌≢◌, ◌<◌, ◌≤◌, ◌-◌, ◌∙◌, inl, inr, ℕ, zero, suc, Bool, true, false, cond, List, [], ◌∷◌, ◌++◌, length, map, take, get_or, refl, sym, ap, subst, arith}
 use Rattle.std.specs.Prelude.{◌⊎◌, ◌↔◌, ◌==◌, All, nat_lt, codes, Option, Some, None, is_some, Result, Ok, Err, IfOk, IfErr, OnErr}
 use Rattle.std.specs.List.{slice_split, onto_first}
 use Rattle.std.proofs.lemmas.Bool.{lt-ltb, ltb-true}
-use Rattle.std.proofs.lemmas.List.{length-append}
+use Rattle.std.proofs.lemmas.List.{length-append, take-append-le, take_all}
 use Rattle.std.proofs.lemmas.List.Splits.{slice_split-cons_yes, slice_split-cons_no}
 use Rattle.std.proofs.lemmas.List.Elements.{All-head, All-tail, All-push}
 use Rattle.lan_base.specs.declared.address.Mi.{Mi}
@@ -18,7 +18,7 @@ use Rattle.transcript.specs.Words.{array, words, spelled}
 use Rattle.transcript.specs.Rendering.{Says, AreNames, IsOfFrame}
 use Rattle.transcript.specs.Naming.{Reads, IsNaming, most_named}
 use Rattle.transcript.specs.inside.Naming.{name_of, name_in, begins_as_life, grown_by, Answered}
-use Rattle.transcript.specs.inside.Reading.{member, says as says_it, and_then, kept_if, after, parted, taken, ended, member_of, station_of, is_space, along, fact_tree, fact_in}
+use Rattle.transcript.specs.inside.Reading.{member, says as says_it, part, and_then, kept_if, after, parted, taken, ended, member_of, station_of, is_space, along, fact_tree, fact_in}
 use Rattle.transcript.specs.inside.Taking.{words_behind, Answers, IsForFrame}
 use Rattle.transcript.proofs.Said.{steps, kept, the_word, same_some, station_tells}
 use Rattle.transcript.proofs.Told.{station_said}
@@ -110,7 +110,7 @@ abbrev life_along : List (List ℕ) → List (List ℕ) → Option ℕ → Optio
 life_along names others o =
     and_then {A = ℕ × List (List ℕ)}
     (and_then {A = ℕ} {B = ℕ × List (List ℕ)} o (λ y. Some (y, others)))
-    (λ x. along names (member (λ mi. says_it (Life x.0 mi))) x.1)
+    (λ x. along names (part member (λ mi. says_it (Life x.0 mi))) x.1)
 
 -- a station that is not known says nothing
 unsaid : (names : List (List ℕ)) (name : List ℕ) (others : List (List ℕ))
@@ -373,6 +373,38 @@ pub answered-under : (names : List (List ℕ)) (octets : List ℕ) (now : List (
     → Answered names octets now r o → Answered names octets now r p
 answered-under names octets now r o p same is =
     subst (λ o. Answered names octets now r o) (sym same) is
+
+last-gone : (names more : List (List ℕ)) (name : List ℕ) (count : ℕ) → more ≡ names ++ name ∷ []
+    → length more ≡ count → take (count - 1) more ≡ names
+last-gone names more name count grown is =
+    let one = length-append names (name ∷ []) in
+    let whole : length more ≡ length (names ++ name ∷ []) = ap length grown in
+    let all : count - 1 ≡ length names = omega (arith, one, whole, is) in
+    ap (take (count - 1)) grown
+    ∙ take-append-le (count - 1) names (name ∷ []) (omega (arith, all))
+    ∙ take_all (count - 1) names (omega (arith, all))
+
+-- a line under one name more: it is read, or the name is taken back
+pub answered-more : (names items after shown : List (List ℕ)) (octets name : List ℕ) (fact : Fact)
+    → items ≡ names → after ≡ items ++ name ∷ [] → shown ≡ after
+    → fact_in shown octets ≡ Some fact
+    → Answered names octets after (Ok fact) (Some (names ++ name ∷ []))
+answered-more names items after shown octets name fact same grown shows is =
+    let e : after ≡ names ++ name ∷ [] = grown ∙ ap (λ ns. ns ++ name ∷ []) same in
+    (e, subst (λ ns. fact_in ns octets ≡ Some fact) (shows ∙ e) is)
+
+pub answered-back : (names items after shown now : List (List ℕ)) (octets name : List ℕ) (count : ℕ)
+    (fault : FactError) → items ≡ names → after ≡ items ++ name ∷ [] → shown ≡ after
+    → length shown ≡ count → now ≡ take (count - 1) after
+    → Answers {X = Fact} {Y = Fact} (λ x. x) (Err fault) (fact_in shown octets)
+    → IsForFrame fault (fact_in shown octets)
+    → Answered names octets now (Err fault) (Some (names ++ name ∷ []))
+answered-back names items after shown now octets name count fault same grown shows many back answers frames =
+    let e : shown ≡ names ++ name ∷ [] = shows ∙ grown ∙ ap (λ ns. ns ++ name ∷ []) same in (
+      back ∙ last-gone items after name count grown (sym (ap length shows) ∙ many) ∙ same,
+      subst (λ ns. Answers {X = Fact} {Y = Fact} (λ x. x) (Err fault) (fact_in ns octets)) e answers,
+      subst (λ ns. IsForFrame fault (fact_in ns octets)) e frames,
+    )
 
 -- a line under a name that is known
 pub answered-again : (names items seen shown : List (List ℕ)) (octets name word : List ℕ)

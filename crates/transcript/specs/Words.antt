@@ -62,9 +62,20 @@ pub data Row (A : Type 0) : Type 0 where
 abbrev pub an_word : AssociationNumber → Word
 an_word an = number 2 (number_of an)
 
+-- an association number and an epoch, each behind its label
+abbrev pub an_words : AssociationNumber → List Word → List Word
+an_words an others = text (codes "an") ∷ an_word an ∷ others
+
+abbrev pub epoch_words : ℕ → List Word → List Word
+epoch_words epoch others = text (codes "epoch") ∷ number 32 epoch ∷ others
+
 -- a key's identifier: its server, and its number
 abbrev pub key_words : KeyId → List Word → List Word
 key_words id others = array 12 id.server.0 ∷ number 32 id.number ∷ others
+
+-- a key of a station: the station, the key's identifier, and its association number
+abbrev pub held_words : ℕ → KeyId → AssociationNumber → List Word → List Word
+held_words s id an others = station s ∷ key_words id (an_words an others)
 
 -- an elected server
 abbrev pub server_word : Option Mi → Word
@@ -160,26 +171,21 @@ words (Life s mi) = text (codes "life") ∷ station s ∷ array 12 mi.0 ∷ []
 words (Ticked s at next) =
     text (codes "tick") ∷ station s ∷ number 32 at ∷ text (codes "next") ∷ number 64 next ∷ []
 words (Server s mi) = text (codes "server") ∷ station s ∷ server_word mi ∷ []
-words (Dropped s id an) =
-    text (codes "drop") ∷ station s ∷ key_words id (text (codes "an") ∷ an_word an ∷ [])
-words (Retired s id an) =
-    text (codes "retire") ∷ station s ∷ key_words id (text (codes "an") ∷ an_word an ∷ [])
+words (Dropped s id an) = text (codes "drop") ∷ held_words s id an []
+words (Retired s id an) = text (codes "retire") ∷ held_words s id an []
 words (Began s id an epoch cause) =
-    text (codes "begin") ∷ station s
-    ∷ key_words id (text (codes "an") ∷ an_word an ∷ text (codes "epoch") ∷ number 32 epoch
-    ∷ text (cause_text cause) ∷ [])
+    text (codes "begin") ∷ held_words s id an (epoch_words epoch (text (cause_text cause) ∷ []))
 words (Installed s id an epoch sak) =
-    text (codes "install") ∷ station s
-    ∷ key_words id (text (codes "an") ∷ an_word an ∷ text (codes "epoch") ∷ number 32 epoch
-    ∷ text (codes "sak") ∷ secret_word sak ∷ [])
+    text (codes "install")
+    ∷ held_words s id an (epoch_words epoch (text (codes "sak") ∷ secret_word sak ∷ []))
 words (Untaken s id why) = text (codes "untaken") ∷ station s ∷ key_words id (why_words why)
 words (Framed k s sec xs) =
     text (codes "frame") ∷ number 32 k ∷ station s ∷ text (frame_text sec) ∷ octets xs ∷ []
 words (HeardMka k s verdict) =
     text (codes "heard") ∷ number 32 k ∷ station s ∷ verdict_words verdict
 words (Claimed s an epoch pn) =
-    text (codes "claim") ∷ station s ∷ text (codes "an") ∷ an_word an ∷ text (codes "epoch")
-    ∷ number 32 epoch ∷ text (codes "pn") ∷ number 32 pn ∷ []
+    text (codes "claim") ∷ station s
+    ∷ an_words an (epoch_words epoch (text (codes "pn") ∷ number 32 pn ∷ []))
 words (Unclaimed s why) = text (codes "noclaim") ∷ station s ∷ lack_words why
 words (Arrived k s arrival) =
     text (codes "data") ∷ number 32 k ∷ station s ∷ arrival_words arrival

@@ -13,7 +13,8 @@ use crate::fault::FactError;
 use crate::tables::{accepted_of, lack_of, reason_of, why_of};
 use crate::words;
 use crate::words::{
-    key, label, member, next_word, no_word, number_32, number_64, station, told, told_by,
+    Held, held_key, key, label, labelled_an, labelled_epoch, member, next_word, no_word, number_32,
+    number_64, station, told, told_by,
 };
 use lan_base::Name;
 use lan_core::Fact;
@@ -99,10 +100,7 @@ fn server(rest: &[u8], names: &[Name]) -> Option<Fact>
 fn dropped(rest: &[u8], names: &[Name]) -> Option<Fact>
     ensures { Takes (λ x. x) result (along names.now drop_key_tree (words_behind rest.now)) }
 {
-    let (station, rest) = station(rest, names)?;
-    let (id, rest) = key(rest)?;
-    let rest = label(rest, b"an")?;
-    let (an, rest) = words::an(rest)?;
+    let (Held { station, id, an }, rest) = held_key(rest, names)?;
     no_word(rest)?;
     Some(Fact::Dropped { station, id, an })
 }
@@ -111,10 +109,7 @@ fn dropped(rest: &[u8], names: &[Name]) -> Option<Fact>
 fn retired(rest: &[u8], names: &[Name]) -> Option<Fact>
     ensures { Takes (λ x. x) result (along names.now retire_tree (words_behind rest.now)) }
 {
-    let (station, rest) = station(rest, names)?;
-    let (id, rest) = key(rest)?;
-    let rest = label(rest, b"an")?;
-    let (an, rest) = words::an(rest)?;
+    let (Held { station, id, an }, rest) = held_key(rest, names)?;
     no_word(rest)?;
     Some(Fact::Retired { station, id, an })
 }
@@ -123,12 +118,8 @@ fn retired(rest: &[u8], names: &[Name]) -> Option<Fact>
 fn began(rest: &[u8], names: &[Name]) -> Option<Fact>
     ensures { Takes (λ x. x) result (along names.now begin_tree (words_behind rest.now)) }
 {
-    let (station, rest) = station(rest, names)?;
-    let (id, rest) = key(rest)?;
-    let rest = label(rest, b"an")?;
-    let (an, rest) = words::an(rest)?;
-    let rest = label(rest, b"epoch")?;
-    let (epoch, rest) = number_32(rest)?;
+    let (Held { station, id, an }, rest) = held_key(rest, names)?;
+    let (epoch, rest) = labelled_epoch(rest)?;
     let (cause, rest) = words::cause(rest)?;
     no_word(rest)?;
     Some(Fact::Began {
@@ -144,12 +135,8 @@ fn began(rest: &[u8], names: &[Name]) -> Option<Fact>
 fn installed(rest: &[u8], names: &[Name]) -> Option<Fact>
     ensures { Takes (λ x. x) result (along names.now install_tree (words_behind rest.now)) }
 {
-    let (station, rest) = station(rest, names)?;
-    let (id, rest) = key(rest)?;
-    let rest = label(rest, b"an")?;
-    let (an, rest) = words::an(rest)?;
-    let rest = label(rest, b"epoch")?;
-    let (epoch, rest) = number_32(rest)?;
+    let (Held { station, id, an }, rest) = held_key(rest, names)?;
+    let (epoch, rest) = labelled_epoch(rest)?;
     let rest = label(rest, b"sak")?;
     let (sak, rest) = words::secret(rest)?;
     no_word(rest)?;
@@ -207,10 +194,8 @@ fn claimed(rest: &[u8], names: &[Name]) -> Option<Fact>
     ensures { Takes (λ x. x) result (along names.now claim_tree (words_behind rest.now)) }
 {
     let (station, rest) = station(rest, names)?;
-    let rest = label(rest, b"an")?;
-    let (an, rest) = words::an(rest)?;
-    let rest = label(rest, b"epoch")?;
-    let (epoch, rest) = number_32(rest)?;
+    let (an, rest) = labelled_an(rest)?;
+    let (epoch, rest) = labelled_epoch(rest)?;
     let rest = label(rest, b"pn")?;
     let (pn, rest) = number_32(rest)?;
     no_word(rest)?;

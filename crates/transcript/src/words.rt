@@ -1,8 +1,8 @@
 //! The words of a line, one after another: what one says, and what stands behind it.
 
-ghost use Rattle.std.specs.Prelude.{◌≡◌, ◌≤◌, ◌∷◌, length, true};
+ghost use Rattle.std.specs.Prelude.{◌≡◌, ◌≤◌, ◌∷◌, length, true, codes};
 ghost use Rattle.std.specs.List.{slice_split, position_or_len, list_all};
-ghost use Rattle.transcript.specs.inside.Reading.{is_space, is_letter, ends_word, parted, after, taken, ended, key_of, station_of, number_of, an_of, member_of, server_of, secret_of, said_by, tags, last_number, last_told, told_by, last_of, last_octets};
+ghost use Rattle.transcript.specs.inside.Reading.{is_space, is_letter, ends_word, parted, after, taken, taken_after, ended, key_of, held_of, station_of, number_of, an_of, member_of, server_of, secret_of, said_by, tags, last_number, last_told, told_by, last_of, last_octets};
 ghost use Rattle.transcript.specs.Words.{cause_text, causes, frame_text, secs};
 ghost use Rattle.transcript.specs.inside.Tables.{named};
 ghost use Rattle.transcript.specs.inside.Taking.{words_behind, Takes, Answers};
@@ -147,6 +147,26 @@ pub fn an(rest: &[u8]) -> Option<(AssociationNumber, &[u8])>
     Some((an, rest))
 }
 
+/// An association number behind its label.
+#[inline(always)]
+pub fn labelled_an(rest: &[u8]) -> Option<(AssociationNumber, &[u8])>
+    ensures { Takes (λ x. (x.0, words_behind x.1.now)) result
+        (taken_after (codes "an") an_of (words_behind rest.now)) }
+{
+    let rest = label(rest, b"an")?;
+    an(rest)
+}
+
+/// An epoch behind its label.
+#[inline(always)]
+pub fn labelled_epoch(rest: &[u8]) -> Option<(u32, &[u8])>
+    ensures { Takes (λ x. (x.0, words_behind x.1.now)) result
+        (taken_after (codes "epoch") (number_of 32) (words_behind rest.now)) }
+{
+    let rest = label(rest, b"epoch")?;
+    number_32(rest)
+}
+
 /// A number of 32 bits.
 #[inline(always)]
 pub fn number_32(rest: &[u8]) -> Option<(u32, &[u8])>
@@ -185,6 +205,25 @@ pub fn key(rest: &[u8]) -> Option<(KeyId, &[u8])>
     let (server, rest) = member(rest)?;
     let (number, rest) = number_32(rest)?;
     Some((KeyId { server, number }, rest))
+}
+
+/// A key of a station: `NAME MI NUMBER an A`.
+#[derive(Clone, Copy)]
+pub struct Held {
+    pub station: u8,
+    pub id: KeyId,
+    pub an: AssociationNumber,
+}
+
+/// The words of such a key.
+pub fn held_key<'a>(rest: &'a [u8], names: &[Name]) -> Option<(Held, &'a [u8])>
+    ensures { Takes (λ x. (x.0, words_behind x.1.now)) result
+        (held_of names.now (words_behind rest.now)) }
+{
+    let (station, rest) = station(rest, names)?;
+    let (id, rest) = key(rest)?;
+    let (an, rest) = labelled_an(rest)?;
+    Some((Held { station, id, an }, rest))
 }
 
 /// An elected server, or none.

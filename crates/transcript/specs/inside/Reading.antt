@@ -21,29 +21,50 @@ use Rattle.rx_slots.specs.declared.arrival.Arrival.TheVariants.{Accepted, Malfor
 use Rattle.lan_core.specs.declared.fact.Fact.{Fact}
 use Rattle.lan_core.specs.declared.fact.Fact.TheVariants.{Life, Ticked, Server, Dropped, Retired, Began, Installed, Untaken, Framed, HeardMka, Claimed, Unclaimed, Arrived}
 use Rattle.trace_text.specs.Words.{is_word}
+use Rattle.transcript.specs.declared.words.Held.{Held}
 use Rattle.transcript.specs.Words.{Row, cause_text, causes, why_words, whys, frame_text, secs, reason_words, reasons, verdict_words, vouches, lack_words, lacks}
 use Rattle.transcript.specs.Words as Words
 use Rattle.transcript.specs.inside.Tables.{value_of, named}
 
+-- a part of a line, which says one value: a word that names a station, that is a number of so many
+-- bits, an association number, a member identifier, an elected server or a key, or that tells why a
+-- key begins, whether a frame is a protected one, or why it is none; the two words of a key's
+-- identifier; or the words of a key of a station
+pub data Part : Type 0 where
+  station : Part
+  number : ℕ → Part
+  an : Part
+  member : Part
+  server : Part
+  secret : Part
+  cause : Part
+  sec : Part
+  tag : Part
+  key : Part
+  held : Part
+
+-- what a part says is one of these
+abbrev pub ValueOf : Part → Type 0
+ValueOf station = ℕ
+ValueOf (number bits) = ℕ
+ValueOf an = AssociationNumber
+ValueOf member = Mi
+ValueOf server = Option Mi
+ValueOf secret = Secret
+ValueOf cause = Cause
+ValueOf sec = Bool
+ValueOf tag = TagRefusal
+ValueOf key = KeyId
+ValueOf held = Held
+
 -- what the words left may be: none, and the fact that was said; a word that is these letters, or
--- else something; a word that is these letters; the name of a station, a number of so many bits, an
--- association number, a member identifier, a key's identifier, an elected server, a key, a word of a table, and what is
--- left behind each; words that say something by themselves; a last word of any count of octets; or
--- nothing
+-- else something; a part, and what is left behind it; a part behind a word that is these letters;
+-- words that say something by themselves; a last word of any count of octets; or nothing
 pub data Tree : Type 0 where
   says : Fact → Tree
   text : List ℕ → Tree → Tree → Tree
-  only : List ℕ → Tree → Tree
-  station : (ℕ → Tree) → Tree
-  number : ℕ → (ℕ → Tree) → Tree
-  an : (AssociationNumber → Tree) → Tree
-  member : (Mi → Tree) → Tree
-  key : (KeyId → Tree) → Tree
-  server : (Option Mi → Tree) → Tree
-  secret : (Secret → Tree) → Tree
-  cause : (Cause → Tree) → Tree
-  sec : (Bool → Tree) → Tree
-  tag : (TagRefusal → Tree) → Tree
+  part : (p : Part) → (ValueOf p → Tree) → Tree
+  labelled : List ℕ → (p : Part) → (ValueOf p → Tree) → Tree
   spoken : (List (List ℕ) → Option Fact) → Tree
   octets : (List ℕ → Fact) → Tree
   nothing : Tree
@@ -150,6 +171,18 @@ key_of words =
     and_then (taken member_of words) (λ x. and_then (taken (number_of 32) x.1)
     (λ y. Some (record { server = x.0; number = y.0 }, y.1)))
 
+-- what the word behind these letters says
+abbrev pub taken_after : {A : Type 0}
+    → List ℕ → (List ℕ → Option A) → List (List ℕ) → Option (A × List (List ℕ))
+taken_after letters read words = and_then (after letters words) (λ others. taken read others)
+
+-- a key of a station, and the words behind it
+abbrev pub held_of : List (List ℕ) → List (List ℕ) → Option (Held × List (List ℕ))
+held_of names words =
+    and_then (taken (station_of names) words) (λ x. and_then (key_of x.1)
+    (λ y. and_then (taken_after (codes "an") an_of y.1)
+    (λ z. Some (record { station = x.0; id = y.0; an = z.0 }, z.1))))
+
 -- the value, if no words are left
 abbrev pub unless : {A B : Type 0} → Option A → B → Option B
 unless None x = Some x
@@ -191,54 +224,50 @@ verdict_of words =
     then option_map (λ reason. verdicts.Dropped reason) (told_in reason_words reasons x.1)
     else told_in verdict_words vouches words)
 
+-- what the first words say that are a part, and the words behind it
+abbrev pub said_first : List (List ℕ) → (p : Part) → List (List ℕ)
+    → Option (ValueOf p × List (List ℕ))
+said_first names station words = taken (station_of names) words
+said_first names (number bits) words = taken (number_of bits) words
+said_first names an words = taken an_of words
+said_first names member words = taken member_of words
+said_first names server words = taken server_of words
+said_first names secret words = taken secret_of words
+said_first names cause words = taken (named cause_text causes) words
+said_first names sec words = taken (named frame_text secs) words
+said_first names tag words = taken (said_by tags) words
+said_first names key words = key_of words
+said_first names held words = held_of names words
+
 -- what words say along a tree
 abbrev pub along : List (List ℕ) → Tree → List (List ℕ) → Option Fact
 along names (says fact) words = ended fact words
 along names (text letters next other) words =
     and_then (parted words)
     (λ x. if is_word x.0 letters then along names next x.1 else along names other words)
-along names (only letters next) words =
-    and_then (after letters words) (λ others. along names next others)
-along names (station next) words =
-    and_then (taken (station_of names) words) (λ x. along names (next x.0) x.1)
-along names (number bits next) words =
-    and_then (taken (number_of bits) words) (λ x. along names (next x.0) x.1)
-along names (an next) words =
-    and_then (taken an_of words) (λ x. along names (next x.0) x.1)
-along names (member next) words =
-    and_then (taken member_of words) (λ x. along names (next x.0) x.1)
-along names (key next) words = and_then (key_of words) (λ x. along names (next x.0) x.1)
-along names (server next) words =
-    and_then (taken server_of words) (λ x. along names (next x.0) x.1)
-along names (secret next) words =
-    and_then (taken secret_of words) (λ x. along names (next x.0) x.1)
-along names (cause next) words =
-    and_then (taken (named cause_text causes) words) (λ x. along names (next x.0) x.1)
-along names (sec next) words =
-    and_then (taken (named frame_text secs) words) (λ x. along names (next x.0) x.1)
-along names (tag next) words =
-    and_then (taken (said_by tags) words) (λ x. along names (next x.0) x.1)
+along names (part p next) words =
+    and_then (said_first names p words) (λ x. along names (next x.0) x.1)
+along names (labelled letters p next) words =
+    and_then (and_then (after letters words) (λ others. said_first names p others))
+    (λ x. along names (next x.0) x.1)
 along names (spoken f) words = f words
 along names (octets f) words = option_map f (last_octets words)
 along names nothing words = None
 
-abbrev pub an_tree : (AssociationNumber → Tree) → Tree
-an_tree next = only (codes "an") (an next)
-
 abbrev pub epoch_tree : (ℕ → Tree) → Tree
-epoch_tree next = only (codes "epoch") (number 32 next)
+epoch_tree next = labelled (codes "epoch") (number 32) next
 
 abbrev pub accepted_tree : (Arrival → Fact) → Tree
-accepted_tree f = number 32 (λ pn. octets (λ body. f (Accepted pn body)))
+accepted_tree f = part (number 32) (λ pn. octets (λ body. f (Accepted pn body)))
 
 abbrev pub malformed_tree : (Arrival → Fact) → Tree
-malformed_tree f = tag (λ refusal. says (f (Malformed refusal)))
+malformed_tree f = part tag (λ refusal. says (f (Malformed refusal)))
 
 abbrev pub missed_tree : (Arrival → Fact) → Tree
-missed_tree f = an (λ a. says (f (Missed a)))
+missed_tree f = part an (λ a. says (f (Missed a)))
 
 abbrev pub late_tree : (Arrival → Fact) → Tree
-late_tree f = number 64 (λ next. says (f (Late next)))
+late_tree f = part (number 64) (λ next. says (f (Late next)))
 
 -- the answers to a protected frame that hold no list of octets
 abbrev pub refused_tree : (Arrival → Fact) → Tree
@@ -254,58 +283,60 @@ arrival_tree f = text (codes "accepted") (accepted_tree f) (refused_tree f)
 
 -- the words of each kind of fact behind the first
 abbrev pub life_tree : Tree
-life_tree = station (λ s. member (λ mi. says (Life s mi)))
+life_tree = part station (λ s. part member (λ mi. says (Life s mi)))
 
 abbrev pub tick_tree : Tree
 tick_tree =
-    station (λ s. number 32 (λ at. only (codes "next")
-    (number 64 (λ next. says (Ticked s at next)))))
+    part station (λ s. part (number 32) (λ at.
+    labelled (codes "next") (number 64) (λ next. says (Ticked s at next))))
 
 abbrev pub server_tree : Tree
-server_tree = station (λ s. server (λ mi. says (Server s mi)))
+server_tree = part station (λ s. part server (λ mi. says (Server s mi)))
 
 abbrev pub drop_key_tree : Tree
-drop_key_tree = station (λ s. key (λ id. an_tree (λ a. says (Dropped s id a))))
+drop_key_tree = part held (λ k. says (Dropped k.station k.id k.an))
 
 abbrev pub retire_tree : Tree
-retire_tree = station (λ s. key (λ id. an_tree (λ a. says (Retired s id a))))
+retire_tree = part held (λ k. says (Retired k.station k.id k.an))
 
 abbrev pub begin_tree : Tree
 begin_tree =
-    station (λ s. key (λ id. an_tree (λ a. epoch_tree (λ epoch.
-    cause (λ c. says (Began s id a epoch c))))))
+    part held (λ k. epoch_tree (λ epoch.
+    part cause (λ c. says (Began k.station k.id k.an epoch c))))
 
 abbrev pub install_tree : Tree
 install_tree =
-    station (λ s. key (λ id. an_tree (λ a. epoch_tree (λ epoch.
-    only (codes "sak") (secret (λ sak. says (Installed s id a epoch sak)))))))
+    part held (λ k. epoch_tree (λ epoch.
+    labelled (codes "sak") secret (λ sak. says (Installed k.station k.id k.an epoch sak))))
 
 abbrev pub untaken_tree : Tree
 untaken_tree =
-    station (λ s. key (λ id. spoken (λ words.
+    part station (λ s. part key (λ id. spoken (λ words.
     option_map (λ why. Untaken s id why) (told_in why_words whys words))))
 
 abbrev pub frame_tree : Tree
 frame_tree =
-    number 32 (λ k. station (λ s. sec (λ protected. octets (λ xs. Framed k s protected xs))))
+    part (number 32) (λ k. part station (λ s. part sec (λ protected.
+    octets (λ xs. Framed k s protected xs))))
 
 abbrev pub heard_tree : Tree
 heard_tree =
-    number 32 (λ k. station (λ s. spoken (λ words.
+    part (number 32) (λ k. part station (λ s. spoken (λ words.
     option_map (λ verdict. HeardMka k s verdict) (verdict_of words))))
 
 abbrev pub claim_tree : Tree
 claim_tree =
-    station (λ s. an_tree (λ a. epoch_tree (λ epoch.
-    only (codes "pn") (number 32 (λ pn. says (Claimed s a epoch pn))))))
+    part station (λ s. labelled (codes "an") an (λ a. epoch_tree (λ epoch.
+    labelled (codes "pn") (number 32) (λ pn. says (Claimed s a epoch pn)))))
 
 abbrev pub noclaim_tree : Tree
 noclaim_tree =
-    station (λ s. spoken (λ words.
+    part station (λ s. spoken (λ words.
     option_map (λ why. Unclaimed s why) (told_in lack_words lacks words)))
 
 abbrev pub data_tree : Tree
-data_tree = number 32 (λ k. station (λ s. arrival_tree (λ arrival. Arrived k s arrival)))
+data_tree =
+    part (number 32) (λ k. part station (λ s. arrival_tree (λ arrival. Arrived k s arrival)))
 
 -- the words of the facts that hold no list of octets
 abbrev pub plain_tree : Tree

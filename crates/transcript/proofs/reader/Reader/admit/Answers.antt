@@ -2,7 +2,7 @@ use Rattle.std.proofs.Common.{◌≡◌, ◌∙◌, ◌++◌, ◌∷◌, [], Non
 use Rattle.std.proofs.lemmas.List.{length-append}
 use Rattle.transcript.specs.Rendering.{AreNames}
 use Rattle.transcript.specs.inside.Reading.{station_of}
-use Rattle.transcript.proofs.NamesRead.{are-more, is-new}
+use Rattle.transcript.proofs.NamesRead.{are-more, is-new, answered-more, answered-back}
 use Rattle.transcript.proofs.reader.Reader.admit.Goals as goal
 
 pub invariant_of-self : goal.invariant_of-self
@@ -21,3 +21,17 @@ invariant_of-self c =
       omega (arith, count, one, places, room),
       c.push_reserved.ensures.capacity ∙ c.self.invariant.2,
     )
+
+pub returns-in-Ok : goal.returns-in-Ok
+returns-in-Ok c =
+    answered-more c.args.self.now c.self.inside.names.items c.push_reserved.new.self.items
+    c.as_slice.result.now c.args.line.now c.args.name c.in-Ok.fact c.self.view_is
+    c.push_reserved.ensures.items c.as_slice.ensures.value c.in-Ok.ensures.answers
+
+pub returns-in-Err : goal.returns-in-Err
+returns-in-Err c =
+    answered-back c.args.self.now c.self.inside.names.items c.push_reserved.new.self.items
+    c.as_slice.result.now c.pop.new.self.items c.args.line.now c.args.name _ c.in-Err.fault
+    c.self.view_is c.push_reserved.ensures.items c.as_slice.ensures.value c.as_slice.ensures.len
+    c.pop.ensures.rest
+    c.in-Err.ensures.answers c.in-Err.ensures.frames
