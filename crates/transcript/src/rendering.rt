@@ -108,7 +108,7 @@ fn put_ticked(into: &mut Vec<u8>, name: &[u8], at: u32, next: u64) -> Result<(),
     put(
         into,
         b"tick",
-        &[Word::Text(name), Word::Number(u64::from(at))],
+        &[Word::Text(name), number(at)],
         &[Word::Text(b"next"), Word::Number(next)],
     )
 }
@@ -128,14 +128,14 @@ fn put_key<'a>(
     ensures err { OnErr result (Grew into.old.items into.new.items) }
 {
     let server = Word::Octets(&id.server.0);
-    let number = Word::Number(u64::from(id.number));
-    let an = Word::Number(u64::from(an.number()));
-    put(
-        into,
-        first,
-        &[Word::Text(name), server, number, Word::Text(b"an"), an],
-        tail,
-    )
+    let head = [
+        Word::Text(name),
+        server,
+        number(id.number),
+        Word::Text(b"an"),
+        an_word(an),
+    ];
+    put(into, first, &head, tail)
 }
 
 /// Appends the line of a key that begins to transmit.
@@ -152,9 +152,8 @@ fn put_began<'a>(
         ∷ decimal (number_of an) ∷ codes "epoch" ∷ decimal epoch ∷ cause_text cause ∷ [])) }
     ensures err { OnErr result (Grew into.old.items into.new.items) }
 {
-    let epoch = Word::Number(u64::from(epoch));
     let cause = Word::Text(cause_text(cause));
-    let tail = [Word::Text(b"epoch"), epoch, cause];
+    let tail = [Word::Text(b"epoch"), number(epoch), cause];
     put_key(into, b"begin", name, id, an, &tail)
 }
 
@@ -173,32 +172,30 @@ fn put_installed<'a>(
         ∷ encode_lower (secret_octets sak.now) ∷ [])) }
     ensures err { OnErr result (Grew into.old.items into.new.items) }
 {
-    let epoch = Word::Number(u64::from(epoch));
     let sak = Word::Octets(sak.octets());
-    let tail = [Word::Text(b"epoch"), epoch, Word::Text(b"sak"), sak];
+    let tail = [Word::Text(b"epoch"), number(epoch), Word::Text(b"sak"), sak];
     put_key(into, b"install", name, id, an, &tail)
 }
 
 /// Appends the line of a frame that is put on the air.
 fn put_framed<'a>(
     into: &mut Vec<u8>,
-    number: u32,
+    frame: u32,
     name: &'a [u8],
     sec: bool,
     octets: &'a Octets,
 ) -> Result<(), AllocError>
     ensures ok { OnOk result (into.new.items ≡ into.old.items ++ line_of (codes "frame")
-        (decimal number ∷ name.now ∷ frame_text sec ∷ encode_lower octets.now ∷ [])) }
+        (decimal frame ∷ name.now ∷ frame_text sec ∷ encode_lower octets.now ∷ [])) }
     ensures err { OnErr result (Grew into.old.items into.new.items) }
 {
-    let number = Word::Number(u64::from(number));
     let kind = Word::Text(frame_text(sec));
     let octets = Word::Octets(octets.as_slice());
     put(
         into,
         b"frame",
-        &[number, Word::Text(name), kind, octets],
-        &[],
+        &[number(frame), Word::Text(name)],
+        &[kind, octets],
     )
 }
 
@@ -215,17 +212,15 @@ fn put_claimed(
         ∷ decimal pn ∷ [])) }
     ensures err { OnErr result (Grew into.old.items into.new.items) }
 {
-    let an = Word::Number(u64::from(an.number()));
-    let epoch = Word::Number(u64::from(epoch));
-    let pn = Word::Number(u64::from(pn));
+    let epoch = number(epoch);
     let head = [
         Word::Text(name),
         Word::Text(b"an"),
-        an,
+        an_word(an),
         Word::Text(b"epoch"),
         epoch,
     ];
-    put(into, b"claim", &head, &[Word::Text(b"pn"), pn])
+    put(into, b"claim", &head, &[Word::Text(b"pn"), number(pn)])
 }
 
 /// Appends the line of a key that is not taken.
@@ -242,7 +237,7 @@ fn put_untaken<'a>(
 {
     let told = why_told(why);
     let server = Word::Octets(&id.server.0);
-    let head = [Word::Text(name), server, Word::Number(u64::from(id.number))];
+    let head = [Word::Text(name), server, number(id.number)];
     put_told(into, b"untaken", &head, told)
 }
 
@@ -258,8 +253,11 @@ fn put_heard(
         ∷ map (spelled names) (verdict_words verdict))) }
     ensures err { OnErr result (Grew into.old.items into.new.items) }
 {
-    let number = Word::Number(u64::from(frame));
-    let head = [number, Word::Text(name), Word::Text(verdict_word(verdict))];
+    let head = [
+        number(frame),
+        Word::Text(name),
+        Word::Text(verdict_word(verdict)),
+    ];
     match verdict {
         Verdict::Vouched | Verdict::Unvouched => put(into, b"heard", &head, &[]),
         Verdict::Dropped(reason) => put_told(into, b"heard", &head, reason_told(reason)),
@@ -287,77 +285,35 @@ fn put_arrived<'a>(
         ∷ map (spelled names) (arrival_words arrival.now))) }
     ensures err { OnErr result (Grew into.old.items into.new.items) }
 {
+    let head = [number(frame), Word::Text(name)];
     match arrival {
-        Arrival::Accepted { pn, body } => put_accepted(into, frame, name, *pn, body),
-        Arrival::Malformed(refusal) => put_malformed(into, frame, name, refusal.text()),
-        Arrival::Own => put_refused(into, frame, name, Told::alone(b"own")),
-        Arrival::Missed { an } => put_missed(into, frame, name, *an),
-        Arrival::BadCheck => put_refused(into, frame, name, Told::alone(b"badcheck")),
-        Arrival::Late { next } => put_refused(into, frame, name, Told::counted(b"late", *next)),
+        Arrival::Accepted { pn, body } => {
+            let body = Word::Octets(body.as_slice());
+            put(
+                into,
+                b"data",
+                &head,
+                &[Word::Text(b"accepted"), number(*pn), body],
+            )
+        }
+        Arrival::Malformed(refusal) => {
+            let why = Word::Text(refusal.text());
+            put(into, b"data", &head, &[Word::Text(b"malformed"), why])
+        }
+        Arrival::Own => put(into, b"data", &head, &[Word::Text(b"own")]),
+        Arrival::Missed { an } => {
+            put(into, b"data", &head, &[Word::Text(b"missed"), an_word(*an)])
+        }
+        Arrival::BadCheck => put(into, b"data", &head, &[Word::Text(b"badcheck")]),
+        Arrival::Late { next } => {
+            put(
+                into,
+                b"data",
+                &head,
+                &[Word::Text(b"late"), Word::Number(*next)],
+            )
+        }
     }
-}
-
-/// Appends the line of a protected frame that is accepted.
-fn put_accepted<'a>(
-    into: &mut Vec<u8>,
-    frame: u32,
-    name: &'a [u8],
-    pn: u32,
-    body: &'a Octets,
-) -> Result<(), AllocError>
-    ensures ok { OnOk result (into.new.items ≡ into.old.items ++ line_of (codes "data")
-        (decimal frame ∷ name.now ∷ codes "accepted" ∷ decimal pn ∷ encode_lower body.now ∷ [])) }
-    ensures err { OnErr result (Grew into.old.items into.new.items) }
-{
-    let head = [Word::Number(u64::from(frame)), Word::Text(name)];
-    let pn = Word::Number(u64::from(pn));
-    let body = Word::Octets(body.as_slice());
-    put(into, b"data", &head, &[Word::Text(b"accepted"), pn, body])
-}
-
-/// Appends the line of a frame that arrived and is no protected frame, for what this word says.
-fn put_malformed<'a>(
-    into: &mut Vec<u8>,
-    frame: u32,
-    name: &'a [u8],
-    why: &'a [u8],
-) -> Result<(), AllocError>
-    ensures ok { OnOk result (into.new.items ≡ into.old.items ++ line_of (codes "data")
-        (decimal frame ∷ name.now ∷ codes "malformed" ∷ why.now ∷ [])) }
-    ensures err { OnErr result (Grew into.old.items into.new.items) }
-{
-    let head = [Word::Number(u64::from(frame)), Word::Text(name)];
-    put(
-        into,
-        b"data",
-        &head,
-        &[Word::Text(b"malformed"), Word::Text(why)],
-    )
-}
-
-/// Appends the line of a protected frame that arrived under a key that is missing.
-fn put_missed(
-    into: &mut Vec<u8>,
-    frame: u32,
-    name: &[u8],
-    an: AssociationNumber,
-) -> Result<(), AllocError>
-    ensures ok { OnOk result (into.new.items ≡ into.old.items ++ line_of (codes "data")
-        (decimal frame ∷ name.now ∷ codes "missed" ∷ decimal (number_of an) ∷ [])) }
-    ensures err { OnErr result (Grew into.old.items into.new.items) }
-{
-    let told = Told::counted(b"missed", u64::from(an.number()));
-    put_refused(into, frame, name, told)
-}
-
-/// Appends the line of a protected frame that arrived, and what tells why it is not accepted.
-fn put_refused(into: &mut Vec<u8>, frame: u32, name: &[u8], why: Told) -> Result<(), AllocError>
-    ensures ok { OnOk result (into.new.items ≡ into.old.items ++ line_of (codes "data")
-        (decimal frame ∷ name.now ∷ told why.entry)) }
-    ensures err { OnErr result (Grew into.old.items into.new.items) }
-{
-    let head = [Word::Number(u64::from(frame)), Word::Text(name)];
-    put_told(into, b"data", &head, why)
 }
 
 /// Appends a line whose last words are those that tell something.
@@ -371,6 +327,20 @@ fn put_told(into: &mut Vec<u8>, first: &[u8], head: &[Word], last: Told) -> Resu
         None => put(into, first, head, &[word]),
         Some(number) => put(into, first, head, &[word, Word::Number(number)]),
     }
+}
+
+/// The word of a number of 32 bits.
+fn number<'a>(number: u32) -> Word<'a>
+    ensures { word_text result ≡ decimal number }
+{
+    Word::Number(u64::from(number))
+}
+
+/// The word of an association number.
+fn an_word<'a>(an: AssociationNumber) -> Word<'a>
+    ensures { word_text result ≡ decimal (number_of an) }
+{
+    Word::Number(u64::from(an.number()))
 }
 
 /// The word that tells an elected server, or that there is none.
