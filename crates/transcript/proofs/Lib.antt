@@ -1,4 +1,5 @@
 mod Joining
+mod Tests
 mod Pairs
 mod Said
 mod Splitting

@@ -15,7 +15,7 @@ use Rattle.std.proofs.lemmas.List.{length-take-le}
 use Rattle.trace_text.specs.Words.{is_word}
 use Rattle.transcript.specs.inside.Numerals.{is_led}
 use Rattle.transcript.specs.inside.Reading.{kept_if, whole_of}
-use Rattle.transcript.proofs.Pairs.{both}
+use Rattle.transcript.proofs.Tests.{both}
 use Rattle.transcript.proofs.Said.{the_word}
 use Rattle.transcript.proofs.Told.{whole_said}
 

@@ -9,12 +9,8 @@ use Rattle.std.proofs.lemmas.List.Sums.{AllPass-from_list_all}
 use Rattle.hex.specs.declared.error.FromHexError.{FromHexError}
 use Rattle.hex.specs.Hex.{encode_with, encode_lower, lower_digits, hex_digit_value, is_hex_digit, digit_or_error, value_at, pair_value, decode_pairs, decode_of, decode_sized, ◌>>=◌, IsBytes}
 use Rattle.hex.proofs.HexLemmas.{length-encode_with, decode_of-even, decode_of-ok, decode_of-digits, decode_sized-twice, decode_sized-ok, IsDigits-lower_digits}
+use Rattle.transcript.proofs.Tests.{both}
 use Rattle.transcript.specs.inside.Reading.{is_small_digit, is_pairs, octets_of, array_of, kept_if}
-
-pub both : (a b : Bool) → a && b ≡ true → (a ≡ true) × (b ≡ true)
-both true true e = (refl, refl)
-both true false e = absurd cc
-both false b e = absurd cc
 
 small_digit : (d : ℕ) → d < 16 → is_small_digit (slice_index lower_digits d) ≡ true
 small_digit d small =

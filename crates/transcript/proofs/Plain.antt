@@ -1,26 +1,23 @@
 -- No word has a space or a line feed in it.
-use Rattle.std.proofs.Common.{◌≡◌, ℕ, ◌<◌, ◌≤◌, ◌^◌, Bool, true, false, List, [], get_or, refl, sym, ap, ◌∙◌, arith}
+use Rattle.std.proofs.Common.{◌≡◌, ℕ, ◌<◌, ◌^◌, Bool, true, false, List, [], get_or, refl, sym, ap, ◌∙◌, arith}
 use Rattle.std.specs.Prelude.{◌==◌, nat_le, decimal}
 use Rattle.std.specs.List.{All, AllPass}
 use Rattle.std.specs.Char.{is_ascii_digit, is_ascii_alphanumeric, is_ascii_lowercase}
-use Rattle.std.proofs.lemmas.Bool.Decides.{nat_tests}
 use Rattle.std.proofs.lemmas.List.Elements.{All-weaker, All-get_or}
 use Rattle.std.proofs.lemmas.List.Sums.{AllPass-from_list_all}
 use Rattle.hex.specs.Hex.{encode_lower, is_hex_digit, IsBytes}
 use Rattle.hex.proofs.HexLemmas.{decode_of-ok, decode_of-encode_lower}
 use Rattle.lan_base.specs.Name.{is_name, IsName}
 use Rattle.trace_text.proofs.Public.{name_characters, decimal_digits}
+use Rattle.transcript.proofs.Tests.{same-number, at-most}
 use Rattle.transcript.specs.Words.{Word, text, station, number, array, octets, spelled, Fits}
 
 -- an octet stands nowhere in these
 abbrev pub Lacks : ℕ → List ℕ → Type 0
 Lacks c xs = All (λ octet. (octet == c) ≡ false) xs
 
-is_same : (x c : ℕ) → (x == c) ≡ true → x ≡ c
-is_same x c e = grind (arith, nat_tests)
-
 differ : (p : ℕ → Bool) (c x : ℕ) (b : Bool) → (x == c) ≡ b → p c ≡ false → p x ≡ true → b ≡ false
-differ p c x true e none passes = sym passes ∙ ap p (is_same x c e) ∙ none
+differ p c x true e none passes = sym passes ∙ ap p (same-number x c e) ∙ none
 differ p c x false e none passes = refl
 
 lacks_by : (p : ℕ → Bool) (c : ℕ) (xs : List ℕ) → p c ≡ false → AllPass p xs → Lacks c xs
@@ -38,9 +35,6 @@ hex_lacks c xs none bytes =
 abbrev pub is_narrow : Word → Bool
 is_narrow (number bits n) = nat_le (2 ^ bits) (2 ^ 64)
 is_narrow _ = true
-
-at-most : (n m : ℕ) → nat_le n m ≡ true → n ≤ m
-at-most n m e = grind (arith, nat_tests)
 
 small : (bits n : ℕ) → nat_le (2 ^ bits) (2 ^ 64) ≡ true → n < 2 ^ bits → n < 2 ^ 64
 small bits n narrow less = let few = at-most (2 ^ bits) (2 ^ 64) narrow in omega (arith, few, less)

@@ -1,5 +1,5 @@
 -- What a word that is read back says is spelled as that word.
-use Rattle.std.proofs.Common.{◌≡◌, ℕ, suc, ◌+◌, ◌<◌, ◌^◌, Bool, true, false, List, [], ◌∷◌, length, get_or, refl, sym, ap, ◌∙◌, inl, inr, arith, subst}
+use Rattle.std.proofs.Common.{◌≡◌, ℕ, suc, ◌<◌, ◌^◌, Bool, true, false, List, [], ◌∷◌, length, get_or, refl, sym, ap, ◌∙◌, inl, inr, arith, subst}
 use Rattle.std.specs.Prelude.{◌⊎◌, ◌==◌, ◌&&◌, nat_lt, Option, Some, None, Result, Ok, Err, decimal, codes, if◌then◌else◌}
 use Rattle.std.specs.Option.{option_map}
 use Rattle.std.specs.Result.{result_ok}
@@ -18,7 +18,8 @@ use Rattle.lan_base.specs.AssociationNumbers as Associations
 use Rattle.trace_text.specs.Words.{is_word}
 use Rattle.transcript.specs.Words.{Word, station, number, array, octets, spelled, Fits, an_word, server_word, secret_word}
 use Rattle.transcript.specs.inside.Reading.{kept_if, and_then, place_of, position_of, station_of, whole_of, number_of, an_of, is_pairs, octets_of, array_of, member_of, server_of, secret_from, secret_of, said_by}
-use Rattle.transcript.proofs.Pairs.{both, written_back}
+use Rattle.transcript.proofs.Tests.{both, same-number, below, one-more}
+use Rattle.transcript.proofs.Pairs.{written_back}
 
 abbrev some_or : {A : Type 0} → A → Option A → A
 some_or d (Some x) = x
@@ -54,9 +55,6 @@ pub record Tells (names : List (List ℕ)) (word : List ℕ) (w : Word) : Type 0
   pub spells : spelled names w ≡ word
   pub fits : Fits names w
 
-one_more : (n : ℕ) → 1 + n ≡ suc n
-one_more n = omega arith
-
 place_step : (word name : List ℕ) (names : List (List ℕ)) → (nat_lt (place_of names word) (length names) ≡ true → get_or names (place_of names word) [] ≡ word)
     → (b : Bool) → is_word name word ≡ b → nat_lt (place_of (name ∷ names) word) (length (name ∷ names)) ≡ true
     → get_or (name ∷ names) (place_of (name ∷ names) word) [] ≡ word
@@ -64,16 +62,13 @@ place_step word name names ih true same within =
     let here : place_of (name ∷ names) word ≡ 0 = rw same refl in
     rw here (the_word name word same)
 place_step word name names ih false other within =
-    let later : place_of (name ∷ names) word ≡ suc (place_of names word) = rw other (one_more (place_of names word)) in
+    let later : place_of (name ∷ names) word ≡ suc (place_of names word) = rw other (one-more (place_of names word)) in
     let inside : nat_lt (place_of names word) (length names) ≡ true = grind (arith, nat_tests, later) in
     rw later (ih inside)
 
 place_is : (word : List ℕ) (names : List (List ℕ)) → nat_lt (place_of names word) (length names) ≡ true → get_or names (place_of names word) [] ≡ word
 place_is word [] within = absurd (grind (arith, nat_tests))
 place_is word (name ∷ names) within = place_step word name names (place_is word names) (is_word name word) refl within
-
-below : (n m : ℕ) → nat_lt n m ≡ true → n < m
-below n m e = grind (arith, nat_tests)
 
 -- the place at which a name was found
 pub as_kept : (b : Bool) (p : ℕ) → (if b then Some p else None) ≡ kept_if b p
@@ -104,19 +99,16 @@ number_tells names bits word n e =
       fits = subst (λ (m : ℕ). m < 2 ^ bits) r.1 (below p.0 (2 ^ bits) r.0);
     }
 
-count_is : (n m : ℕ) → (n == m) ≡ true → n ≡ m
-count_is n m e = grind (arith, nat_tests)
-
 a_number : (n : ℕ) (an : AssociationNumber) → numbered n ≡ Some an → n ≡ Associations.number_of an
 a_number n an e =
     elim (chosen (n == 0) (Some An0) (if n == 1 then Some An1 else if n == 2 then Some An2 else if n == 3 then Some An3 else None) an e) [
-      | inl h ↦ count_is n 0 h.0 ∙ ap Associations.number_of (same_some An0 an h.1)
+      | inl h ↦ same-number n 0 h.0 ∙ ap Associations.number_of (same_some An0 an h.1)
       | inr o ↦ elim (chosen (n == 1) (Some An1) (if n == 2 then Some An2 else if n == 3 then Some An3 else None) an o.1) [
-        | inl h ↦ count_is n 1 h.0 ∙ ap Associations.number_of (same_some An1 an h.1)
+        | inl h ↦ same-number n 1 h.0 ∙ ap Associations.number_of (same_some An1 an h.1)
         | inr o ↦ elim (chosen (n == 2) (Some An2) (if n == 3 then Some An3 else None) an o.1) [
-          | inl h ↦ count_is n 2 h.0 ∙ ap Associations.number_of (same_some An2 an h.1)
+          | inl h ↦ same-number n 2 h.0 ∙ ap Associations.number_of (same_some An2 an h.1)
           | inr o ↦ elim (chosen (n == 3) (Some An3) None an o.1) [
-            | inl h ↦ count_is n 3 h.0 ∙ ap Associations.number_of (same_some An3 an h.1)
+            | inl h ↦ same-number n 3 h.0 ∙ ap Associations.number_of (same_some An3 an h.1)
             | inr o ↦ absurd (cc o.1)
           ]
         ]
@@ -152,7 +144,7 @@ array_tells names count word xs e =
     let p = steps (octets_of word) (λ ys. kept_if (length ys == count) ys) xs e in
     let q = kept (length p.0 == count) p.0 xs p.2 in
     let o = octets_back word xs (p.1 ∙ ap (λ ys. Some ys) q.1) in
-    let size : length xs ≡ count = ap length (sym q.1) ∙ count_is (length p.0) count q.0 in
+    let size : length xs ≡ count = ap length (sym q.1) ∙ same-number (length p.0) count q.0 in
     record { spells = o.0; fits = (size, o.1) }
 
 pub member_tells : (names : List (List ℕ)) (word : List ℕ) (mi : Mi) → member_of word ≡ Some mi → Tells names word (array 12 mi.0)

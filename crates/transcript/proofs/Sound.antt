@@ -1,9 +1,7 @@
 -- A fact that words say along a sound tree has these words.
 use Rattle.std.proofs.Common.{◌≡◌, ℕ, Bool, List, [], ◌∷◌, ◌++◌, refl, sym, ap, ◌∙◌, inl, inr, subst, append_assoc}
-use Rattle.std.specs.Prelude.{Option, Some, IsTrue, map, option_map, codes, if◌then◌else◌}
-use Rattle.std.specs.List.{list_all}
-use Rattle.std.specs.Char.{is_ascii_lowercase}
-use Rattle.aes_block.specs.declared.secret.Secret.{Secret}
+use Rattle.std.specs.Prelude.{Option, Some, map, option_map, codes, if◌then◌else◌}
+use Rattle.std.proofs.lemmas.List.{append-nil, map-append}
 use Rattle.lan_base.specs.declared.address.Mi.{Mi}
 use Rattle.lan_base.specs.declared.association_number.AssociationNumber.{AssociationNumber}
 use Rattle.lan_base.specs.declared.key_id.KeyId.{KeyId}
@@ -12,18 +10,14 @@ use Rattle.gcm_frames.specs.declared.tag.TagRefusal.{TagRefusal}
 use Rattle.gcm_frames.specs.Tags.{tag_text}
 use Rattle.lan_core.specs.declared.fact.Fact.{Fact}
 use Rattle.trace_text.specs.Words.{is_word}
-use Rattle.transcript.specs.Words.{Word, spelled, Fits, words, an_word, an_words, key_words, held_words, server_word, secret_word, cause_text, causes, frame_text, secs}
+use Rattle.transcript.specs.Words.{Word, spelled, words, an_word, an_words, key_words, held_words, server_word, secret_word, cause_text, causes, frame_text, secs}
 use Rattle.transcript.specs.Words as Words
 use Rattle.transcript.specs.Rendering.{AllFit}
 use Rattle.transcript.specs.declared.words.Held.{Held}
 use Rattle.transcript.specs.inside.Reading.{Part, station, number, an, member, server, secret, cause, sec, tag, key, held, ValueOf, said_first, Tree, says, text, part, labelled, spoken, octets, nothing, parted, taken, taken_after, after, key_of, held_of, ended, last_of, last_octets, station_of, number_of, an_of, member_of, server_of, secret_of, octets_of, said_by, tags, and_then, kept_if, along}
 use Rattle.transcript.proofs.Said.{same_some, kept, steps, mapped, chosen, the_word, Tells, station_tells, number_tells, an_tells, member_tells, server_tells, secret_tells, octets_tells, said_each}
-use Rattle.transcript.proofs.Tabled.{Back, cause-back, sec-back}
+use Rattle.transcript.proofs.Tabled.{AreSmall, Back, cause-back, sec-back}
 use Rattle.transcript.specs.inside.Tables.{named}
-
--- letters that a line may have
-abbrev AreSmall : List ℕ → Type 0
-AreSmall letters = IsTrue (list_all is_ascii_lowercase letters)
 
 -- the words of a fact are these, and those that are left
 pub record Left (names : List (List ℕ)) (before : List Word) (ws : List (List ℕ)) (fact : Fact) : Type 0 where
@@ -61,10 +55,6 @@ pub record Tell (names : List (List ℕ)) (before : List Word) (left : List (Lis
   pub spells : map (spelled names) (words fact) ≡ map (spelled names) before ++ left
   pub fits : AllFit names (words fact)
 
-map_both : (names : List (List ℕ)) (before more : List Word) → map (spelled names) (before ++ more) ≡ map (spelled names) before ++ map (spelled names) more
-map_both names [] more = refl
-map_both names (b ∷ bs) more = ap (λ ws. spelled names b ∷ ws) (map_both names bs more)
-
 all_both : (names : List (List ℕ)) (before more : List Word) → AllFit names before → AllFit names more → AllFit names (before ++ more)
 all_both names [] more fit too = too
 all_both names (b ∷ bs) more fit too = (fit.0, all_both names bs more fit.1 too)
@@ -86,7 +76,7 @@ begins_word names w given word ws left t b = record {
 begins_both : (names : List (List ℕ)) (these those : List Word) (ws middle left : List (List ℕ)) → Begins names these ws middle
     → Begins names those middle left → Begins names (these ++ those) ws left
 begins_both names these those ws middle left a b = record {
-  spells = ap (λ vs. vs ++ left) (map_both names these those) ∙ append_assoc (map (spelled names) these) (map (spelled names) those) left
+  spells = ap (λ vs. vs ++ left) (map-append (spelled names) these those) ∙ append_assoc (map (spelled names) these) (map (spelled names) those) left
       ∙ ap (λ vs. map (spelled names) these ++ vs) b.spells ∙ a.spells;
   fits = all_both names these those a.fits b.fits;
 }
@@ -95,7 +85,7 @@ begins_both names these those ws middle left a b = record {
 earlier : (names : List (List ℕ)) (before more : List Word) (ws left : List (List ℕ)) (fact : Fact) → Begins names more ws left
     → Tell names (before ++ more) left fact → Tell names before ws fact
 earlier names before more ws left fact b tell = record {
-  spells = tell.spells ∙ ap (λ vs. vs ++ left) (map_both names before more)
+  spells = tell.spells ∙ ap (λ vs. vs ++ left) (map-append (spelled names) before more)
       ∙ append_assoc (map (spelled names) before) (map (spelled names) more) left ∙ ap (λ vs. map (spelled names) before ++ vs) b.spells;
   fits = tell.fits;
 }
@@ -128,16 +118,12 @@ none_left : (fact given : Fact) (ws : List (List ℕ)) → ended given ws ≡ So
 none_left fact given [] e = (refl, same_some given fact e)
 none_left fact given (word ∷ words) e = absurd cc
 
-append_none : (xs : List (List ℕ)) → xs ≡ xs ++ []
-append_none [] = refl
-append_none (x ∷ xs) = ap (λ ys. x ∷ ys) (append_none xs)
-
 at_end : (names : List (List ℕ)) (before : List Word) (ws : List (List ℕ)) (fact given : Fact) → words given ≡ before → AllFit names before
     → (ws ≡ []) × (given ≡ fact) → Tell names before ws fact
 at_end names before ws fact given e fit p =
     let same : words fact ≡ before = ap words (sym p.1) ∙ e in
     record {
-      spells = ap (map (spelled names)) same ∙ append_none (map (spelled names) before) ∙ ap (λ v. map (spelled names) before ++ v) (sym p.0);
+      spells = ap (map (spelled names)) same ∙ sym (append-nil (map (spelled names) before)) ∙ ap (λ v. map (spelled names) before ++ v) (sym p.0);
       fits = subst (AllFit names) (sym same) fit;
     }
 
@@ -268,7 +254,7 @@ tells names before (labelled letters p next) ws fact sound fit e =
 tells names before (spoken f) ws fact sound fit e =
     let l = sound names ws fact e in
     record {
-      spells = ap (map (spelled names)) l.split ∙ map_both names before l.more ∙ ap (λ v. map (spelled names) before ++ v) l.back.spells;
+      spells = ap (map (spelled names)) l.split ∙ map-append (spelled names) before l.more ∙ ap (λ v. map (spelled names) before ++ v) l.back.spells;
       fits = subst (AllFit names) (sym l.split) (all_both names before l.more fit l.back.fits);
     }
 tells names before (octets f) ws fact sound fit e =

@@ -10,10 +10,7 @@ use Rattle.trace_text.specs.Words.{is_word}
 use Rattle.trace_text.proofs.Public.{within}
 use Rattle.transcript.specs.inside.Reading.{is_space, is_letter, ends_word, after, kept_if}
 use Rattle.transcript.specs.inside.Taking.{words_behind}
-use Rattle.transcript.proofs.Pairs.{both}
-
-one_more : (n : ℕ) → 1 + n ≡ suc n
-one_more n = omega arith
+use Rattle.transcript.proofs.Tests.{both, one-more}
 
 abbrev pub first_of : List ℕ → List ℕ
 first_of text = take (position_or_len is_space text) text
@@ -27,7 +24,7 @@ step x xs ih true space =
     let none : position_or_len is_space (x ∷ xs) ≡ 0 = rw space refl in
     slice_split-cons_yes is_space x xs space ∙ rw none refl
 step x xs ih false word =
-    let more : position_or_len is_space (x ∷ xs) ≡ suc (position_or_len is_space xs) = rw word (one_more (position_or_len is_space xs)) in
+    let more : position_or_len is_space (x ∷ xs) ≡ suc (position_or_len is_space xs) = rw word (one-more (position_or_len is_space xs)) in
     slice_split-cons_no is_space x xs word ∙ ap (onto_first x) ih ∙ rw more refl
 
 pub first_word : (text : List ℕ) → slice_split is_space text ≡ first_of text ∷ words_behind (rest_of text)

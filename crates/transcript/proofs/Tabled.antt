@@ -22,7 +22,7 @@ use Rattle.transcript.specs.Words.{Word, text, number, spelled, Row, one, each, 
 use Rattle.transcript.specs.Rendering.{AllFit}
 use Rattle.transcript.specs.inside.Reading.{and_then, whole_of, ended, last_number, told_by, told_in, verdict_of}
 use Rattle.transcript.specs.inside.Tables.{letters_of, bits_of, alone, counted, value_of, named}
-use Rattle.transcript.proofs.Pairs.{both}
+use Rattle.transcript.proofs.Tests.{both, same-number, at-most}
 use Rattle.transcript.proofs.Said.{same_some, steps, mapped, chosen, the_word, number_tells}
 use Rattle.transcript.proofs.Told.{whole_said}
 
@@ -55,7 +55,7 @@ abbrev rest : {A : Type 0} → List A → List A
 rest [] = []
 rest (x ∷ xs) = xs
 
-abbrev AreSmall : List ℕ → Type 0
+abbrev pub AreSmall : List ℕ → Type 0
 AreSmall letters = IsTrue (list_all is_ascii_lowercase letters)
 
 head-formed : {A : Type 0} (listed : A → List Word) (row : Row A) (rows : List (Row A)) → IsTable listed (row ∷ rows)
@@ -189,12 +189,6 @@ record Stands {A : Type 0} (listed : A → List Word) (rows : List (Row A)) (let
   pub counts : n < 2 ^ bits → counted listed rows letters n ≡ Some x
   pub few : 2 ^ bits ≤ 2 ^ 64
 
-same-bits : (n m : ℕ) → (n == m) ≡ true → n ≡ m
-same-bits n m e = grind (arith, nat_tests)
-
-at-most : (n m : ℕ) → nat_le n m ≡ true → n ≤ m
-at-most n m e = grind (arith, nat_tests)
-
 passes : (n m : ℕ) → n < m → nat_lt n m ≡ true
 passes n m less = grind (arith, nat_tests)
 
@@ -209,7 +203,7 @@ stands listed (each f ∷ rows) letters bits n x e =
       | inl here ↦ elim (chosen ((bits == bits_of (listed (f 0))) && nat_le (2 ^ bits) (2 ^ 64)) (Some (f n)) None x here.1) [
         | inl is ↦
             let b = both (bits == bits_of (listed (f 0))) (nat_le (2 ^ bits) (2 ^ 64)) is.0 in
-            let same = same-bits bits (bits_of (listed (f 0))) b.0 in
+            let same = same-number bits (bits_of (listed (f 0))) b.0 in
             record {
               counts = λ fits.
                   let less : nat_lt n (2 ^ bits_of (listed (f 0))) ≡ true = passes n (2 ^ bits_of (listed (f 0))) (subst (λ m. n < 2 ^ m) same fits) in

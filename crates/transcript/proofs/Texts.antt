@@ -15,7 +15,7 @@ use Rattle.transcript.specs.Words.{Word, text, words, spelled, Fits}
 use Rattle.lan_base.specs.Differing.{AllDiffer}
 use Rattle.transcript.specs.Rendering.{joined, line, transcript, AllFit, IsFact, Says}
 use Rattle.transcript.specs.inside.Reading.{fact_in, along, fact_tree}
-use Rattle.transcript.proofs.Pairs.{both}
+use Rattle.transcript.proofs.Tests.{both}
 use Rattle.transcript.proofs.Plain.{Lacks, is_narrow, spelled_lacks}
 use Rattle.transcript.proofs.Splitting.{joined_again}
 use Rattle.transcript.proofs.Sound.{tells}

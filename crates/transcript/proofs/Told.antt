@@ -1,5 +1,5 @@
 -- The words that are spelled of a value say the value.
-use Rattle.std.proofs.Common.{◌≡◌, ℕ, zero, suc, ◌+◌, ◌<◌, ◌^◌, Bool, true, false, List, [], ◌∷◌, length, get_or, refl, ap, ◌∙◌, arith}
+use Rattle.std.proofs.Common.{◌≡◌, ℕ, zero, suc, ◌<◌, ◌^◌, Bool, true, false, List, [], ◌∷◌, length, get_or, refl, ap, ◌∙◌, arith}
 use Rattle.std.specs.Option.{option_map}
 use Rattle.std.specs.Prelude.{◌≢◌, ◌==◌, nat_lt, Option, Some, None, decimal, codes}
 use Rattle.std.proofs.lemmas.Bool.Decides.{nat_tests}
@@ -17,6 +17,7 @@ use Rattle.trace_text.specs.Words.{is_word}
 use Rattle.transcript.specs.Words.{spelled, Fits, server_word, secret_word}
 use Rattle.lan_base.specs.Differing.{DiffersFrom, AllDiffer}
 use Rattle.transcript.specs.inside.Reading.{place_of, station_of, whole_of, number_of, an_of, octets_of, array_of, member_of, server_of, secret_of}
+use Rattle.transcript.proofs.Tests.{one-more}
 use Rattle.transcript.proofs.Pairs.{pairs_written}
 
 pub same_word : (word : List ℕ) → is_word word word ≡ true
@@ -28,9 +29,6 @@ never word other false e differ = refl
 
 pub other_word : (word other : List ℕ) → word ≢ other → is_word word other ≡ false
 other_word word other differ = never word other (is_word word other) refl differ
-
-one_more : (n : ℕ) → 1 + n ≡ suc n
-one_more n = omega arith
 
 differs-there : (name : List ℕ) (names : List (List ℕ)) (s : ℕ) → DiffersFrom name names
     → s < length names → name ≢ get_or names s []
@@ -44,7 +42,7 @@ place_found (name ∷ names) zero d l = rw (same_word name) refl
 place_found (name ∷ names) (suc s) d l =
     let inside : s < length names = omega (arith, l) in
     rw (other_word name (get_or names s []) (differs-there name names s d.0 inside))
-    (one_more (place_of names (get_or names s [])) ∙ ap (λ n. suc n) (place_found names s d.1 inside))
+    (one-more (place_of names (get_or names s [])) ∙ ap (λ n. suc n) (place_found names s d.1 inside))
 
 pub station_said : (names : List (List ℕ)) (s : ℕ) → AllDiffer names → (s < length names) × (s < 256) → station_of names (get_or names s []) ≡ Some s
 station_said names s d fit =
