@@ -16,6 +16,7 @@ use Rattle.gcm_frames.specs.declared.tag.TagRefusal.TheVariants as Tag
 use Rattle.lan_base.specs.declared.address.Mi.{Mi}
 use Rattle.lan_base.specs.declared.association_number.AssociationNumber.{AssociationNumber}
 use Rattle.lan_base.specs.declared.association_number.AssociationNumber.TheVariants.{An0, An1, An2, An3}
+use Rattle.lan_base.specs.declared.key_id.KeyId.{KeyId}
 use Rattle.lan_base.specs.AssociationNumbers.{number_of}
 use Rattle.lan_base.specs.Differing.{AllDiffer}
 use Rattle.rx_slots.specs.declared.arrival.Arrival.{Arrival}
@@ -36,11 +37,11 @@ use Rattle.lan_core.specs.declared.fact.Lack.{Lack}
 use Rattle.lan_core.specs.declared.fact.Lack.TheVariants.{NoKey, Exhausted}
 use Rattle.lan_core.specs.Run.{place}
 use Rattle.lan_core.specs.Types.{AreOctets, IsMi, IsSecret}
-use Rattle.lan_core.specs.TypedFacts.{IsTypedFact, IsTypedWhy, IsTypedReason, IsTypedVerdict, IsTypedLack, IsTypedArrival}
+use Rattle.lan_core.specs.TypedFacts.{IsTypedFact, IsTypedId, IsTypedWhy, IsTypedReason, IsTypedVerdict, IsTypedLack, IsTypedArrival}
 use Rattle.transcript.specs.Words as Words
-use Rattle.transcript.specs.Words.{Fits, array, spelled, words, key_words, cause_text, frame_text, why_words, whys, reason_words, verdict_words, lack_words, lacks, arrival_words, secret_word}
+use Rattle.transcript.specs.Words.{Fits, array, spelled, words, key_words, held_words, epoch_words, cause_text, frame_text, why_words, whys, reason_words, verdict_words, lack_words, lacks, arrival_words, secret_word}
 use Rattle.transcript.specs.Rendering.{AllFit, IsFact}
-use Rattle.transcript.specs.inside.Reading.{along, told_in, verdict_of, tick_tree, begin_tree, install_tree, untaken_tree, frame_tree, heard_tree, claim_tree, noclaim_tree, data_tree, plain_tree, fact_tree}
+use Rattle.transcript.specs.inside.Reading.{along, held_of, told_in, verdict_of, tick_tree, begin_tree, install_tree, untaken_tree, frame_tree, heard_tree, claim_tree, noclaim_tree, data_tree, plain_tree, fact_tree}
 use Rattle.transcript.proofs.Plain.{is_narrow}
 use Rattle.transcript.proofs.Told.{station_said, number_said, an_said, octets_said, member_said, server_said, secret_said}
 use Rattle.transcript.proofs.Tabled.{told-said, told-back, cause-said, sec-said, why-found, why-table, lack-found, lack-table, verdict-said, verdict-back}
@@ -51,15 +52,30 @@ use Rattle.transcript.proofs.Sound.{Sound, left_by}
 abbrev pub told : List (List ℕ) → Fact → Option Fact
 told names fact = along names fact_tree (map (spelled names) (words fact))
 
+-- a key of a station is told by its words
+held_said : (names : List (List ℕ)) (s : ℕ) (id : KeyId) (an : AssociationNumber) (more : List Words.Word) → AllDiffer names
+    → AllFit names (held_words s id an more)
+    → held_of names (map (spelled names) (held_words s id an more)) ≡ Some (record { station = s; id = id; an = an }, map (spelled names) more)
+held_said names s id an more d fit =
+    rw (station_said names s d fit.0, member_said id.server fit.1.0, number_said 32 id.number (omega (arith, fit.1.1.0)) fit.1.1.0, an_said an) refl
+
 -- a fact is told by its words
 pub fact_told : (names : List (List ℕ)) (fact : Fact) → AllDiffer names → IsFact names fact → told names fact ≡ Some fact
 fact_told names (Life s mi) d fit = rw (station_said names s d fit.1.0, member_said mi fit.1.1.0) refl
 fact_told names (Ticked s at next) d fit = rw (station_said names s d fit.1.0, number_said 32 at (omega (arith, fit.1.1.0)) fit.1.1.0, number_said 64 next (omega (arith, fit.1.1.1.1.0)) fit.1.1.1.1.0) refl
 fact_told names (Server s mi) d fit = rw (station_said names s d fit.1.0, server_said names mi fit.1.1.0) refl
-fact_told names (Dropped s id an) d fit = rw (station_said names s d fit.1.0, member_said id.server fit.1.1.0, number_said 32 id.number (omega (arith, fit.1.1.1.0)) fit.1.1.1.0, an_said an) refl
-fact_told names (Retired s id an) d fit = rw (station_said names s d fit.1.0, member_said id.server fit.1.1.0, number_said 32 id.number (omega (arith, fit.1.1.1.0)) fit.1.1.1.0, an_said an) refl
-fact_told names (Began s id an epoch cause) d fit = rw (station_said names s d fit.1.0, member_said id.server fit.1.1.0, number_said 32 id.number (omega (arith, fit.1.1.1.0)) fit.1.1.1.0, an_said an, number_said 32 epoch (omega (arith, fit.1.1.1.1.1.1.1.0)) fit.1.1.1.1.1.1.1.0, cause-said cause) refl
-fact_told names (Installed s id an epoch sak) d fit = rw (station_said names s d fit.1.0, member_said id.server fit.1.1.0, number_said 32 id.number (omega (arith, fit.1.1.1.0)) fit.1.1.1.0, an_said an, number_said 32 epoch (omega (arith, fit.1.1.1.1.1.1.1.0)) fit.1.1.1.1.1.1.1.0, secret_said names sak fit.1.1.1.1.1.1.1.1.1.0) refl
+fact_told names (Dropped s id an) d fit = rw (held_said names s id an [] d fit.1) refl
+fact_told names (Retired s id an) d fit = rw (held_said names s id an [] d fit.1) refl
+fact_told names (Began s id an epoch cause) d fit =
+    let more = fit.1.1.1.1.1.1 in
+    rw (held_said names s id an (epoch_words epoch (Words.text (cause_text cause) ∷ [])) d fit.1, number_said 32 epoch (omega (arith, more.1.0)) more.1.0, cause-said cause) refl
+fact_told names (Installed s id an epoch sak) d fit =
+    let more = fit.1.1.1.1.1.1 in
+    rw (
+      held_said names s id an (epoch_words epoch (Words.text (codes "sak") ∷ secret_word sak ∷ [])) d fit.1,
+      number_said 32 epoch (omega (arith, more.1.0)) more.1.0,
+      secret_said names sak more.1.1.1.0,
+    ) refl
 fact_told names (Untaken s id why) d fit =
     rw (station_said names s d fit.1.0, member_said id.server fit.1.1.0, number_said 32 id.number (omega (arith, fit.1.1.1.0)) fit.1.1.1.0)
     (ap (option_map (λ w. Untaken s id w)) (told-said names why_words whys (why_words why) why (why-found why) fit.1.1.1.1))
@@ -72,15 +88,10 @@ fact_told names (Unclaimed s why) d fit =
     rw (station_said names s d fit.1.0)
     (ap (option_map (λ w. Unclaimed s w)) (told-said names lack_words lacks (lack_words why) why (lack-found why) fit.1.1))
 fact_told names (Arrived k s (arrivals.Accepted pn body)) d fit = rw (number_said 32 k (omega (arith, fit.1.0)) fit.1.0, station_said names s d fit.1.1.0, number_said 32 pn (omega (arith, fit.1.1.1.1.0)) fit.1.1.1.1.0, octets_said body fit.1.1.1.1.1.0) refl
-fact_told names (Arrived k s (arrivals.Malformed Tag.NotSec)) d fit = rw (number_said 32 k (omega (arith, fit.1.0)) fit.1.0, station_said names s d fit.1.1.0) refl
-fact_told names (Arrived k s (arrivals.Malformed Tag.Version)) d fit = rw (number_said 32 k (omega (arith, fit.1.0)) fit.1.0, station_said names s d fit.1.1.0) refl
-fact_told names (Arrived k s (arrivals.Malformed Tag.Mode)) d fit = rw (number_said 32 k (omega (arith, fit.1.0)) fit.1.0, station_said names s d fit.1.1.0) refl
-fact_told names (Arrived k s (arrivals.Malformed Tag.Short)) d fit = rw (number_said 32 k (omega (arith, fit.1.0)) fit.1.0, station_said names s d fit.1.1.0) refl
-fact_told names (Arrived k s (arrivals.Malformed Tag.SlWrong)) d fit = rw (number_said 32 k (omega (arith, fit.1.0)) fit.1.0, station_said names s d fit.1.1.0) refl
-fact_told names (Arrived k s arrivals.Own) d fit = rw (number_said 32 k (omega (arith, fit.1.0)) fit.1.0, station_said names s d fit.1.1.0) refl
 fact_told names (Arrived k s (arrivals.Missed an)) d fit = rw (number_said 32 k (omega (arith, fit.1.0)) fit.1.0, station_said names s d fit.1.1.0, an_said an) refl
-fact_told names (Arrived k s arrivals.BadCheck) d fit = rw (number_said 32 k (omega (arith, fit.1.0)) fit.1.0, station_said names s d fit.1.1.0) refl
 fact_told names (Arrived k s (arrivals.Late next)) d fit = rw (number_said 32 k (omega (arith, fit.1.0)) fit.1.0, station_said names s d fit.1.1.0, number_said 64 next (omega (arith, fit.1.1.1.1.0)) fit.1.1.1.1.0) refl
+fact_told names (Arrived k s (arrivals.Malformed Tag.NotSec)) d fit = rw (number_said 32 k (omega (arith, fit.1.0)) fit.1.0, station_said names s d fit.1.1.0) refl
+fact_told names (Arrived k s _) d fit = rw (number_said 32 k (omega (arith, fit.1.0)) fit.1.0, station_said names s d fit.1.1.0) refl
 
 -- ---- what the words of a line say is it
 
@@ -248,78 +259,32 @@ sec-fits : (sec : Bool)
 sec-fits true = refl
 sec-fits false = refl
 
+-- where the station is one of those that are named
+held-fits : (names : List (List ℕ)) (s : ℕ) (id : KeyId) (an : AssociationNumber) (more : List Words.Word) → Fits names (Words.station s) → IsTypedId id
+    → AllFit names more → AllFit names (held_words s id an more)
+held-fits names s id an more there is fit = (there, (mi-fits names id.server is.0, (is.1, (refl, (an-fits an, fit)))))
+
+fits-there : (names : List (List ℕ)) (fact : Fact) → IsTypedFact fact → Fits names (Words.station (place fact)) → IsFact names fact
+fits-there names (Life s mi) is there = (refl, (there, (mi-fits names mi is, tt)))
+fits-there names (Ticked s clock next) is there = (refl, (there, (is.0, (refl, (is.1, tt)))))
+fits-there names (Server s None) is there = (refl, (there, (refl, tt)))
+fits-there names (Server s (Some mi)) is there = (refl, (there, (mi-fits names mi is, tt)))
+fits-there names (Dropped s id an) is there = (refl, held-fits names s id an [] there is tt)
+fits-there names (Retired s id an) is there = (refl, held-fits names s id an [] there is tt)
+fits-there names (Began s id an epoch cause) is there =
+    (refl, held-fits names s id an (epoch_words epoch (Words.text (cause_text cause) ∷ [])) there is.0 (refl, (is.1, (cause-fits cause, tt))))
+fits-there names (Installed s id an epoch sak) is there = (
+  refl,
+  held-fits names s id an (epoch_words epoch (Words.text (codes "sak") ∷ secret_word sak ∷ [])) there is.0
+      (refl, (is.1, (refl, (secret-fits names sak is.2, tt)))),
+)
+fits-there names (Untaken s id why) is there = (refl, (there, (mi-fits names id.server is.0.0, (is.0.1, why-fits names why is.1))))
+fits-there names (Framed k s sec octets) is there = (refl, (is.0, (there, (sec-fits sec, (bytes octets is.1, tt)))))
+fits-there names (HeardMka k s verdict) is there = (refl, (is.0, (there, verdict-fits names verdict is.1)))
+fits-there names (Claimed s an epoch pn) is there = (refl, (there, (refl, (an-fits an, (refl, (is.0, (refl, (is.1, tt))))))))
+fits-there names (Unclaimed s why) is there = (refl, (there, lack-fits names why is))
+fits-there names (Arrived k s arrival) is there = (refl, (is.0, (there, arrival-fits names arrival is.1)))
+
 pub typed-fits : (names : List (List ℕ)) (fact : Fact) → IsTypedFact fact
     → place fact < length names → length names ≤ 256 → IsFact names fact
-typed-fits names (Life s mi) is at few =
-    (refl, ((at, omega (arith, at, few)), (mi-fits names mi is, tt)))
-typed-fits names (Ticked s clock next) is at few =
-    (refl, ((at, omega (arith, at, few)), (is.0, (refl, (is.1, tt)))))
-typed-fits names (Server s None) is at few = (refl, ((at, omega (arith, at, few)), (refl, tt)))
-typed-fits names (Server s (Some mi)) is at few =
-    (refl, ((at, omega (arith, at, few)), (mi-fits names mi is, tt)))
-typed-fits names (Dropped s id an) is at few =
-    (refl, ((at, omega (arith, at, few)), (mi-fits names id.server is.0, (is.1, (refl, (an-fits an, tt))))))
-typed-fits names (Retired s id an) is at few =
-    (refl, ((at, omega (arith, at, few)), (mi-fits names id.server is.0, (is.1, (refl, (an-fits an, tt))))))
-typed-fits names (Began s id an epoch cause) is at few = (
-  refl,
-  (
-    (at, omega (arith, at, few)),
-    (
-      mi-fits names id.server is.0.0,
-      (
-        is.0.1,
-        (
-          refl,
-          (
-            an-fits an,
-            (
-              refl,
-              (
-                is.1,
-                (cause-fits cause, tt),
-              ),
-            ),
-          ),
-        ),
-      ),
-    ),
-  ),
-)
-typed-fits names (Installed s id an epoch sak) is at few = (
-  refl,
-  (
-    (at, omega (arith, at, few)),
-    (
-      mi-fits names id.server is.0.0,
-      (
-        is.0.1,
-        (
-          refl,
-          (
-            an-fits an,
-            (
-              refl,
-              (
-                is.1,
-                (refl, (secret-fits names sak is.2, tt)),
-              ),
-            ),
-          ),
-        ),
-      ),
-    ),
-  ),
-)
-typed-fits names (Untaken s id why) is at few =
-    (refl, ((at, omega (arith, at, few)), (mi-fits names id.server is.0.0, (is.0.1, why-fits names why is.1))))
-typed-fits names (Framed k s sec octets) is at few =
-    (refl, (is.0, ((at, omega (arith, at, few)), (sec-fits sec, (bytes octets is.1, tt)))))
-typed-fits names (HeardMka k s verdict) is at few =
-    (refl, (is.0, ((at, omega (arith, at, few)), verdict-fits names verdict is.1)))
-typed-fits names (Claimed s an epoch pn) is at few =
-    (refl, ((at, omega (arith, at, few)), (refl, (an-fits an, (refl, (is.0, (refl, (is.1, tt))))))))
-typed-fits names (Unclaimed s why) is at few =
-    (refl, ((at, omega (arith, at, few)), lack-fits names why is))
-typed-fits names (Arrived k s arrival) is at few =
-    (refl, (is.0, ((at, omega (arith, at, few)), arrival-fits names arrival is.1)))
+typed-fits names fact is at few = fits-there names fact is (at, omega (arith, at, few))
