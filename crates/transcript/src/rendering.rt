@@ -46,22 +46,22 @@ fn put_fact<'a>(fact: &'a Fact, into: &mut Vec<u8>, names: &'a [Name]) -> Result
         Fact::Life { mi, .. } => put_life(into, name, mi),
         Fact::Ticked { at, next, .. } => put_ticked(into, name, *at, *next),
         Fact::Server { mi, .. } => put_server(into, name, mi),
-        Fact::Dropped { id, an, .. } => put_key(into, b"drop", name, id, *an, &[]),
-        Fact::Retired { id, an, .. } => put_key(into, b"retire", name, id, *an, &[]),
+        Fact::Dropped { id, an, .. } => put(into, b"drop", &held_words(name, id, *an), &[]),
+        Fact::Retired { id, an, .. } => put(into, b"retire", &held_words(name, id, *an), &[]),
         Fact::Began {
             id,
             an,
             epoch,
             cause,
             ..
-        } => put_began(into, name, id, *an, *epoch, *cause),
+        } => put_began(into, &held_words(name, id, *an), *epoch, *cause),
         Fact::Installed {
             id,
             an,
             epoch,
             sak,
             ..
-        } => put_installed(into, name, id, *an, *epoch, sak),
+        } => put_installed(into, &held_words(name, id, *an), *epoch, sak),
         Fact::Untaken { id, why, .. } => put_untaken(into, name, id, *why),
         Fact::Framed {
             number,
@@ -113,68 +113,41 @@ fn put_ticked(into: &mut Vec<u8>, name: &[u8], at: u32, next: u64) -> Result<(),
     )
 }
 
-/// Appends a line of a key: its first word, the station, the identifier, the AN, and further words.
-fn put_key<'a>(
-    into: &mut Vec<u8>,
-    first: &[u8],
-    name: &'a [u8],
-    id: &'a KeyId,
-    an: AssociationNumber,
-    tail: &[Word<'a>],
-) -> Result<(), AllocError>
-    ensures ok { OnOk result (into.new.items ≡ into.old.items ++ line_of first.now
-        (name.now ∷ encode_lower id.now.server.0 ∷ decimal id.now.number ∷ codes "an"
-        ∷ decimal (number_of an) ∷ map word_text tail.now)) }
-    ensures err { OnErr result (Grew into.old.items into.new.items) }
-{
-    let server = Word::Octets(&id.server.0);
-    let head = [
-        Word::Text(name),
-        server,
-        number(id.number),
-        Word::Text(b"an"),
-        an_word(an),
-    ];
-    put(into, first, &head, tail)
-}
-
-/// Appends the line of a key that begins to transmit.
+/// Appends the line of a key that begins to transmit, of which these are the first words.
 fn put_began<'a>(
     into: &mut Vec<u8>,
-    name: &'a [u8],
-    id: &'a KeyId,
-    an: AssociationNumber,
+    key: &[Word<'a>],
     epoch: u32,
     cause: Cause,
 ) -> Result<(), AllocError>
     ensures ok { OnOk result (into.new.items ≡ into.old.items ++ line_of (codes "begin")
-        (name.now ∷ encode_lower id.now.server.0 ∷ decimal id.now.number ∷ codes "an"
-        ∷ decimal (number_of an) ∷ codes "epoch" ∷ decimal epoch ∷ cause_text cause ∷ [])) }
+        (map word_text key.now ++ codes "epoch" ∷ decimal epoch ∷ cause_text cause ∷ [])) }
     ensures err { OnErr result (Grew into.old.items into.new.items) }
 {
     let cause = Word::Text(cause_text(cause));
-    let tail = [Word::Text(b"epoch"), number(epoch), cause];
-    put_key(into, b"begin", name, id, an, &tail)
+    put(
+        into,
+        b"begin",
+        key,
+        &[Word::Text(b"epoch"), number(epoch), cause],
+    )
 }
 
-/// Appends the line of a key that is the latest one from now on.
+/// Appends the line of a key that is the latest one from now on, of which these are the first words.
 fn put_installed<'a>(
     into: &mut Vec<u8>,
-    name: &'a [u8],
-    id: &'a KeyId,
-    an: AssociationNumber,
+    key: &[Word<'a>],
     epoch: u32,
     sak: &'a Secret,
 ) -> Result<(), AllocError>
     ensures ok { OnOk result (into.new.items ≡ into.old.items ++ line_of (codes "install")
-        (name.now ∷ encode_lower id.now.server.0 ∷ decimal id.now.number ∷ codes "an"
-        ∷ decimal (number_of an) ∷ codes "epoch" ∷ decimal epoch ∷ codes "sak"
+        (map word_text key.now ++ codes "epoch" ∷ decimal epoch ∷ codes "sak"
         ∷ encode_lower (secret_octets sak.now) ∷ [])) }
     ensures err { OnErr result (Grew into.old.items into.new.items) }
 {
     let sak = Word::Octets(sak.octets());
     let tail = [Word::Text(b"epoch"), number(epoch), Word::Text(b"sak"), sak];
-    put_key(into, b"install", name, id, an, &tail)
+    put(into, b"install", key, &tail)
 }
 
 /// Appends the line of a frame that is put on the air.
@@ -327,6 +300,22 @@ fn put_told(into: &mut Vec<u8>, first: &[u8], head: &[Word], last: Told) -> Resu
         None => put(into, first, head, &[word]),
         Some(number) => put(into, first, head, &[word, Word::Number(number)]),
     }
+}
+
+/// The words of a key of the station that is named.
+fn held_words<'a>(name: &'a [u8], id: &'a KeyId, an: AssociationNumber) -> [Word<'a>; 5]
+    ensures { map word_text result ≡ name.now ∷ encode_lower id.now.server.0
+        ∷ decimal id.now.number ∷ codes "an" ∷ decimal (number_of an) ∷ [] }
+{
+    let server = Word::Octets(&id.server.0);
+    let number = number(id.number);
+    [
+        Word::Text(name),
+        server,
+        number,
+        Word::Text(b"an"),
+        an_word(an),
+    ]
 }
 
 /// The word of a number of 32 bits.

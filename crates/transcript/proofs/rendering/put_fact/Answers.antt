@@ -7,7 +7,7 @@ pub returns-in-Installed-clause-ok : goal.returns-in-Installed-clause-ok
 unfolding line
 returns-in-Installed-clause-ok c =
     rw (c.in-Installed.is, secret_spelled c.args.names.now c.in-Installed.sak)
-    (rw (c.name_at-name.ensures, c.place.ensures, c.in-Installed.is) at c.put_installed.ensures.ok)
+    (rw (c.held_words-in-Installed.ensures, c.name_at-name.ensures, c.place.ensures, c.in-Installed.is) at c.put_installed.ensures.ok)
 
 pub returns-in-Untaken-clause-ok : goal.returns-in-Untaken-clause-ok
 unfolding line
