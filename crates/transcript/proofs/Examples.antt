@@ -5,13 +5,15 @@ use Rattle.std.proofs.lemmas.List.Elements.{All-cons, All-nil}
 use Rattle.std.specs.Fmt.{digits}
 use Rattle.hex.specs.Hex.{encode_with}
 use Rattle.lan_base.specs.declared.association_number.AssociationNumber.TheVariants.{An1}
+use Rattle.lan_base.specs.declared.key_id.KeyId.{KeyId}
 use Rattle.lan_base.specs.Name.{IsName}
 use Rattle.peer_lists.specs.declared.heard.PeerRefusal.TheVariants as PeerRefusal
 use Rattle.mka_station.specs.declared.verdict.DropReason.TheVariants as Reason
 use Rattle.mka_station.specs.declared.verdict.Verdict.TheVariants as Verdict
 use Rattle.rx_slots.specs.declared.arrival.Arrival.TheVariants as Arrival
+use Rattle.sak_exchange.specs.declared.change.Cause.TheVariants as Cause
 use Rattle.lan_core.specs.declared.fact.Fact.{Fact}
-use Rattle.lan_core.specs.declared.fact.Fact.TheVariants.{Ticked, Server, Framed, HeardMka, Claimed, Arrived}
+use Rattle.lan_core.specs.declared.fact.Fact.TheVariants.{Ticked, Server, Began, Framed, HeardMka, Claimed, Arrived}
 use Rattle.lan_base.specs.Differing.{AllDiffer}
 use Rattle.transcript.specs.Rendering.{line, rendered, IsFact, Says, AreNames}
 use Rattle.transcript.specs.inside.Reading.{fact_in}
@@ -56,6 +58,16 @@ frame_line = refl
 pub claim_line : line names (Claimed 0 An1 2 3) ≡ codes "claim A an 1 epoch 2 pn 3"
 unfolding line digits
 claim_line = refl
+
+abbrev id : KeyId
+id = record {
+  server = record { 0 = 0 ∷ 1 ∷ 2 ∷ 3 ∷ 4 ∷ 5 ∷ 6 ∷ 7 ∷ 8 ∷ 9 ∷ 10 ∷ 11 ∷ [] };
+  number = 7;
+}
+
+pub key_line : line names (Began 0 id An1 2 Cause.All) ≡ codes "begin A 000102030405060708090a0b 7 an 1 epoch 2 all"
+unfolding line digits encode_with
+key_line = refl
 
 -- a tick with its frame, a hearing with its server, and a late frame are three events
 pub three_events : cut (ticked ∷ frame ∷ heard ∷ server ∷ late ∷ []) ≡ (ticked ∷ frame ∷ []) ∷ (heard ∷ server ∷ []) ∷ (late ∷ []) ∷ []
