@@ -41,7 +41,7 @@ use Rattle.worker_races.specs.merge.Given.{AreGiven, AreUnder, IsPast}
 use Rattle.worker_races.specs.merge.Given.{ArePerformed as AreGivenFor}
 use Rattle.worker_races.specs.merge.Merged.{AllPairs, AreLogged, InLog, IsFit}
 use Rattle.worker_races.specs.merge.Places.{Attempt, Follows, Move}
-use Rattle.worker_races.specs.merge.Raced.{IsAttempt, IsRaced, before_of, epoch_at, epoch_of}
+use Rattle.worker_races.specs.merge.Raced.{IsAttempt, IsRaced, before_of, epoch_at, epoch_of, standing_at}
 use Rattle.worker_races.specs.merge.Steps.{AreRising, AreSteps, attempt_of, logs_of, moves_of}
 use Rattle.worker_races.specs.merge.Table.{words_in}
 use Rattle.worker_races.specs.merge.Worked.{AreAns, BeganAfter, IsGivenNext, NoneExhausted, times_in, times_in_all}
@@ -354,7 +354,7 @@ module _ (race : Race) (is : WereBeside race) where
     | inr past ↦ (let none = ap epoch_of (no-key s past) in omega (arith, none))
   ]
 
-  goes : (s : ℕ) → Follows s (epoch_at settings s r) (pointed_in race s) moves
+  goes : (s : ℕ) → Follows s (standing_at settings s (pointed_in race s) r) moves
   goes s = follows-all settings race.users ans s (pointed_in race s) r moves stepped given (past-all s) (low-all s)
 
   -- ---- what a seat was given

@@ -13,8 +13,8 @@ use Rattle.lan_core.specs.declared.event.Event.TheVariants as events
 use Rattle.lan_core.specs.Order.{Exists, IsAllowed, is_event_of}
 use Rattle.lan_core.specs.Legal.{IsStepped}
 use Rattle.lan_core.proofs.Public.{others-change-none}
-use Rattle.worker_races.specs.merge.Places.{Move, Follows, Moves, last_of}
-use Rattle.worker_races.specs.merge.Raced.{epoch_of, epoch_at, AreMoves}
+use Rattle.worker_races.specs.merge.Places.{Move, Standing, Follows, Moves, last_of}
+use Rattle.worker_races.specs.merge.Raced.{epoch_of, epoch_at, standing_at, AreMoves}
 use Rattle.worker_races.specs.merge.Given.{IsPast, IsGiven, AreGiven}
 use Rattle.worker_races.proofs.weaving.PlaceLemmas.{last_of-cases}
 use Rattle.worker_races.proofs.weaving.Agree.{own-of, starts-none}
@@ -98,7 +98,7 @@ module _ (settings : Settings) (users : List UserFrame) (ans : ℕ → ℕ → A
   last-high p m high = elim (last_of-cases p m) [ inl c ↦ c.1 | inr c ↦ absurd (let l = c.0 in omega (arith, high, l)) ]
 
   record Next (c : Run) (m : Move) (p : ℕ) : Type 0 where
-    moves : Moves m.before p m
+    moves : Moves (standing_at settings m.station p c) m
     past : IsPast settings m.station (m.x ∷ c) (last_of p m)
     low : m.after ≤ last_of p m
 
@@ -109,7 +109,7 @@ module _ (settings : Settings) (users : List UserFrame) (ans : ℕ → ℕ → A
         | from.keeps stay then ↦ (let same : m.after ≡ m.before = given.after ∙ (ap epoch_of stay ∙ sym given.before) in
             let last = last-low p m (let b = given.before in omega (arith, same, b, low)) in
             record {
-              moves = inl (same, no-gap (λ g. (given.gap g).2 same));
+              moves = inl (same ∙ given.before, no-gap (λ g. (given.gap g).2 same));
               past = subst (IsPast settings m.station (m.x ∷ c)) (sym last) then;
               low = (let b = given.before in omega (arith, same, b, low, last));
             })
@@ -124,7 +124,7 @@ module _ (settings : Settings) (users : List UserFrame) (ans : ℕ → ℕ → A
             let up : p < m.after = omega (arith, is, high) in
             let last = last-high p m up in
             record {
-              moves = inr (inr (up, λ g. (given.gap g).0));
+              moves = inr (inr (up, λ g. subst (λ t. 0 < t) given.before (given.gap g).0));
               past = subst (IsPast settings m.station (m.x ∷ c)) (sym (last ∙ is)) then;
               low = omega (arith, last);
             })
@@ -138,7 +138,7 @@ module _ (settings : Settings) (users : List UserFrame) (ans : ℕ → ℕ → A
 
   pub follows-given : (s p : ℕ) (c : Run) (ms : List Move) → IsStepped settings users c
       → AreGiven settings users ans c ms → Exists s c → IsPast settings s c p → epoch_at settings s c ≤ p
-      → Follows s (epoch_at settings s c) p ms
+      → Follows s (standing_at settings s p c) ms
   follows-given s p c [] stepped given there past low = tt
   follows-given s p c (m ∷ ms) stepped given there past low = elim (cases_eq m.station s) [
     | inl own ↦ (let at = subst (λ v. IsPast settings v c p) (sym own) past in
@@ -149,8 +149,8 @@ module _ (settings : Settings) (users : List UserFrame) (ans : ℕ → ℕ → A
         inl (
           own,
           here,
-          subst (λ t. Moves t p m) here next.moves,
-          subst (λ t. Follows s t (last_of p m) ms) (sym then)
+          subst (λ v. Moves (standing_at settings v p c) m) own next.moves,
+          subst (λ t. Follows s (record { transmitting = t; pointed = last_of p m }) ms) (sym then)
               (follows-given s (last_of p m) (m.x ∷ c) ms (given.0.step, stepped) given.2
               (subst (λ ps. s < length ps) (sym (same-places c m given.0)) there)
               (subst (λ v. IsPast settings v (m.x ∷ c) (last_of p m)) own next.past)
@@ -160,7 +160,7 @@ module _ (settings : Settings) (users : List UserFrame) (ans : ℕ → ℕ → A
         let epoch : epoch_at settings s (m.x ∷ c) ≡ epoch_at settings s c = rw same refl in
         inr (
           other,
-          subst (λ t. Follows s t p ms) epoch
+          subst (λ t. Follows s (record { transmitting = t; pointed = p }) ms) epoch
               (follows-given s p (m.x ∷ c) ms (given.0.step, stepped) given.2
               (subst (λ ps. s < length ps) (sym (same-places c m given.0)) there)
               (past-same s p c m.x same past) (subst (λ t. t ≤ p) (sym epoch) low)),
@@ -168,18 +168,18 @@ module _ (settings : Settings) (users : List UserFrame) (ans : ℕ → ℕ → A
   ]
 
   -- no step is one of a station that is not there
-  pub follows-none : (s t p : ℕ) (c : Run) (ms : List Move) → AreGiven settings users ans c ms → (Exists s c → ⊥) → Follows s t p ms
-  follows-none s t p c [] given none = tt
-  follows-none s t p c (m ∷ ms) given none = inr (
+  follows-none : (s : ℕ) (now : Standing) (c : Run) (ms : List Move) → AreGiven settings users ans c ms → (Exists s c → ⊥) → Follows s now ms
+  follows-none s now c [] given none = tt
+  follows-none s now c (m ∷ ms) given none = inr (
     λ own. none (subst (λ v. Exists v c) own (own-there c m given.0)),
-    follows-none s t p (m.x ∷ c) ms given.2 (λ there. none (subst (λ ps. s < length ps) (same-places c m given.0) there)),
+    follows-none s now (m.x ∷ c) ms given.2 (λ there. none (subst (λ ps. s < length ps) (same-places c m given.0) there)),
   )
 
   -- the steps of a station, whether it is there or not
   pub follows-all : (s p : ℕ) (c : Run) (ms : List Move) → IsStepped settings users c
       → AreGiven settings users ans c ms → IsPast settings s c p → epoch_at settings s c ≤ p
-      → Follows s (epoch_at settings s c) p ms
+      → Follows s (standing_at settings s p c) ms
   follows-all s p c ms stepped given past low = elim (cases_lt s (length (stations c))) [
     | inl there ↦ follows-given s p c ms stepped given there past low
-    | inr not ↦ follows-none s (epoch_at settings s c) p c ms given (λ there. omega (arith, there, not))
+    | inr not ↦ follows-none s (standing_at settings s p c) c ms given (λ there. omega (arith, there, not))
   ]

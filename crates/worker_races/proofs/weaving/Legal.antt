@@ -8,7 +8,7 @@ use Rattle.worker_races.specs.merge.Places.{Move}
 use Rattle.worker_races.specs.merge.Places.{Attempt}
 use Rattle.worker_races.specs.merge.Marks.{Mark}
 use Rattle.worker_races.specs.merge.Marks.{Control, Claim}
-use Rattle.worker_races.specs.merge.Places.{ends, place, Follows, last_of}
+use Rattle.worker_races.specs.merge.Places.{Standing, ends, place, standing_after, Follows}
 use Rattle.worker_races.specs.merge.inside.Moments.{stands, Replaced, IsAt, Grows, AllGrow}
 use Rattle.worker_races.specs.merge.Merged.{rank, sooner, numbered, merged, Before, IsFit, Differ, AllPairs, InLog}
 use Rattle.worker_races.specs.merge.inside.Ordered.{is_control, now, next, settled, replaced, InOrder, AreInOrder, IsControl}
@@ -101,7 +101,7 @@ module _ (R : Before) (sts : List Move) (ctl : IsControl R sts) where
 
   record State (k : ℕ) (past zs : List Mark) : Type 0 where
     left : filter is_control zs ≡ numbered k (after k sts)
-    present : (s : ℕ) → now s (R.standing s) past ≡ stands s (R.standing s) sts k
+    present : (s : ℕ) → now s (R.standing s).transmitting past ≡ stands s (R.standing s).transmitting sts k
     behind : AllByRecursion (Behind k) past
     ahead : AllByRecursion (Ahead k) zs
     good_past : AllByRecursion IsGood past
@@ -155,7 +155,7 @@ module _ (R : Before) (sts : List Move) (ctl : IsControl R sts) where
   tick_counts k st a sh (Control n u) good low o = λ s e. grow_at sts ctl.grow n k u st low good a (sym s) (sym e) sh
   tick_counts k st a sh (Claim x) good low o = λ r s e.
       let l = good.lives r in
-      tick_above x r l.0 sts _ _ (ctl.pointed x.station) (ctl.follows x.station) ctl.grow k st a (sym s) (sym e) sh (elim o [ inl h ↦ inl h | inr h ↦ inr (h.0, h.1 ∙ sym e) ])
+      tick_above x r l.0 sts (R.standing x.station) (ctl.pointed x.station) (ctl.follows x.station) ctl.grow k st a (sym s) (sym e) sh (elim o [ inl h ↦ inl h | inr h ↦ inr (h.0, h.1 ∙ sym e) ])
 
   tick_all : (k : ℕ) (st : Move) → IsAt sts k st → 0 < st.shown → (past : List Mark) → AllByRecursion IsGood past → AllByRecursion (Behind k) past → AllByRecursion (ForTick k st) past
       → AllByRecursion (Counts st.station st.before st.shown) past
@@ -216,23 +216,23 @@ module _ (R : Before) (sts : List Move) (ctl : IsControl R sts) where
   ahead_more k st (Control n u ∷ zs) all = (tt, ahead_more k st zs all.1)
   ahead_more k st (Claim x ∷ zs) all = (let h = rank_late (rank sts (Claim x)) (rank sts (Control k st)) all.0.0 (omega arith) in omega arith, ahead_more k st zs all.1)
 
-  now_step : (k : ℕ) (st : Move) (past : List Mark) → IsAt sts k st → ((s : ℕ) → now s (R.standing s) past ≡ stands s (R.standing s) sts k)
-      → (s : ℕ) → now s (R.standing s) (Control k st ∷ past) ≡ stands s (R.standing s) sts (suc k)
+  now_step : (k : ℕ) (st : Move) (past : List Mark) → IsAt sts k st → ((s : ℕ) → now s (R.standing s).transmitting past ≡ stands s (R.standing s).transmitting sts k)
+      → (s : ℕ) → now s (R.standing s).transmitting (Control k st ∷ past) ≡ stands s (R.standing s).transmitting sts (suc k)
   unfolding now
-  now_step k st past a h s = ap (λ w. cond (eqb st.station s) st.after w) (h s) ∙ sym (stands_step s (R.standing s) sts k st a)
+  now_step k st past a h s = ap (λ w. cond (eqb st.station s) st.after w) (h s) ∙ sym (stands_step s (R.standing s).transmitting sts k st a)
 
   now_claim : (x : Attempt) (past : List Mark) (s t : ℕ) → now s t (Claim x ∷ past) ≡ now s t past
   unfolding now
   now_claim x past s t = refl
 
   -- ---- the law
-  before_stands : (s : ℕ) (ss : List Move) (t top n : ℕ) (st : Move) → Follows s t top ss → IsAt ss n st → st.station ≡ s → st.before ≡ stands s t ss n
+  before_stands : (s : ℕ) (ss : List Move) (at : Standing) (n : ℕ) (st : Move) → Follows s at ss → IsAt ss n st → st.station ≡ s → st.before ≡ stands s at.transmitting ss n
   unfolding stands
-  before_stands s [] t top n st f a h = absurd a
-  before_stands s (u ∷ ss) t top zero st (inl m) a h = sym (ap (λ w. w.before) a) ∙ m.1
-  before_stands s (u ∷ ss) t top zero st (inr m) a h = absurd (m.0 (ap (λ w. w.station) a ∙ h))
-  before_stands s (u ∷ ss) t top (suc n) st (inl m) a h = before_stands s ss u.after (last_of top u) n st m.3 a h ∙ ap (λ v. stands s v ss n) (sym (cond-true (eqb u.station s) u.after t (eq-eqb _ _ m.0)))
-  before_stands s (u ∷ ss) t top (suc n) st (inr m) a h = before_stands s ss t top n st m.1 a h ∙ ap (λ v. stands s v ss n) (sym (cond-false (eqb u.station s) u.after t (ne_eqb _ _ m.0)))
+  before_stands s [] at n st f a h = absurd a
+  before_stands s (u ∷ ss) at zero st (inl m) a h = sym (ap (λ w. w.before) a) ∙ m.1
+  before_stands s (u ∷ ss) at zero st (inr m) a h = absurd (m.0 (ap (λ w. w.station) a ∙ h))
+  before_stands s (u ∷ ss) at (suc n) st (inl m) a h = before_stands s ss (standing_after at u) n st m.3 a h ∙ ap (λ v. stands s v ss n) (sym (cond-true (eqb u.station s) u.after at.transmitting (eq-eqb _ _ m.0)))
+  before_stands s (u ∷ ss) at (suc n) st (inr m) a h = before_stands s ss at n st m.1 a h ∙ ap (λ v. stands s v ss n) (sym (cond-false (eqb u.station s) u.after at.transmitting (ne_eqb _ _ m.0)))
 
   control_at : (n : ℕ) (st : Move) (zs : List Mark) (k : ℕ) → Control n st ∷ filter is_control zs ≡ numbered k (after k sts) → (n ≡ k) × IsAt sts k st × (filter is_control zs ≡ numbered (suc k) (after (suc k) sts))
   unfolding numbered
@@ -254,12 +254,12 @@ module _ (R : Before) (sts : List Move) (ctl : IsControl R sts) where
       let up : k ≤ place x sts = S.ahead.0 in
       let here : place x sts ≡ k = omega arith in
       let fit : IsFit R sts x = S.good.0 in
-      let stood = ap (stands x.station (R.standing x.station) sts) (sym here) in (
+      let stood = ap (stands x.station (R.standing x.station).transmitting sts) (sym here) in (
         λ r. (
-          S.present x.station ∙ (stood ∙ taken_stands x r sts _ _ (ctl.follows x.station) (fit.lives r).1),
+          S.present x.station ∙ (stood ∙ taken_stands x r sts (R.standing x.station) (ctl.follows x.station) (fit.lives r).1),
           next_bound x.station x.epoch _ x.number (fit.above r) past (all_count x k fit r up past zs S.good_past S.behind S.across),
         ),
-        λ r. elim (refused_excused x r sts _ _ (ctl.follows x.station) (fit.noted r).1) [
+        λ r. elim (refused_excused x r sts (R.standing x.station) (ctl.follows x.station) (fit.noted r).1) [
           | inl h ↦ inl (S.present x.station ∙ (stood ∙ h))
           | inr h ↦ inr (replaced_from x.station zs k (after k sts) S.left (replaced_after x.station sts k (subst (Replaced x.station sts) here h)))
         ],
@@ -284,7 +284,7 @@ module _ (R : Before) (sts : List Move) (ctl : IsControl R sts) where
   control_in_order n st zs past S =
       let a : IsAt sts n st = S.good.0 in
       let keeps = each_at (λ st. 0 < st.shown → st.after ≡ st.before → R.next_of st.station st.before ≤ st.shown) sts n st ctl.keeps a in (
-        before_stands st.station sts _ _ n st (ctl.follows st.station) a refl ∙ sym (S.present st.station),
+        before_stands st.station sts (R.standing st.station) n st (ctl.follows st.station) a refl ∙ sym (S.present st.station),
         λ sh e. next_bound st.station st.before _ st.shown (keeps sh e) past (tick_all n st a sh past S.good_past S.behind (for_tick n st zs e past S.across)),
         λ sh e. settled_bound n st a sh past S.good_past S.behind S.down,
       )
@@ -376,7 +376,7 @@ module _ (R : Before) (sts : List Move) (ctl : IsControl R sts) where
   unfolding now after
   legal es fit differ = legal_from (merged sts es) [] 0 (record {
     left = woven_control R sts ctl es;
-    present = λ s. sym (stands-zero s (R.standing s) sts);
+    present = λ s. sym (stands-zero s (R.standing s).transmitting sts);
     behind = tt;
     ahead = ahead_all _;
     good_past = tt;

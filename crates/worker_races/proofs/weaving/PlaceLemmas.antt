@@ -4,7 +4,7 @@ use Rattle.std.specs.List.{AllByRecursion}
 use Rattle.std.proofs.lemmas.Bool.{cond-true, cond-false, cases_Bool, cases_eq, cases_lt, ltb-true, eqb-true, eqb-false, lt-ltb, le-ltb, eq-eqb, ne_eqb, and_parts, or_cases, and_from, not-true, both_ways}
 use Rattle.worker_races.specs.merge.Places.{Move}
 use Rattle.worker_races.specs.merge.Places.{Attempt}
-use Rattle.worker_races.specs.merge.Places.{ends, place, Moves, last_of, Follows, Begun, Lives, Noted}
+use Rattle.worker_races.specs.merge.Places.{Standing, ends, place, Moves, last_of, standing_after, Follows, Begun, Lives, Noted}
 use Rattle.worker_races.specs.merge.inside.Moments.{stands, Replaced, IsAt, Grows, AllGrow}
 
 pub place-here : (x : Attempt) (st : Move) (sts : List Move) → ends x st ≡ true → place x (st ∷ sts) ≡ 0
@@ -76,20 +76,22 @@ pub last_of-cases : (top : ℕ) (st : Move) → (top < st.after × last_of top s
 last_of-cases top st = elim (cases_lt top st.after) [ inl l ↦ inl (l, cond-true _ _ _ (lt-ltb _ _ l)) | inr k ↦ inr (k, cond-false _ _ _ (le-ltb _ _ k)) ]
 
 -- a later beginning is above what was pointed at
-pub begun_above : (s e : ℕ) (sts : List Move) (t top : ℕ) → 0 < e → t ≤ top → Follows s t top sts → Begun s e sts → (e ≡ t) ⊎ (top < e)
-begun_above s e [] t top pos le f b = absurd b
-begun_above s e (st ∷ sts) t top pos le (inr n) (inl b) = absurd (n.0 b.0)
-begun_above s e (st ∷ sts) t top pos le (inr n) (inr b) = begun_above s e sts t top pos le n.1 b
-begun_above s e (st ∷ sts) t top pos le (inl m) b = now (λ le' g. begun_above s e sts st.after (last_of top st) pos le' m.3 g) m.2 b
+pub begun_above : (s e : ℕ) (sts : List Move) (now : Standing) → 0 < e → now.transmitting ≤ now.pointed → Follows s now sts → Begun s e sts
+    → (e ≡ now.transmitting) ⊎ (now.pointed < e)
+begun_above s e [] now pos le f b = absurd b
+begun_above s e (st ∷ sts) now pos le (inr n) (inl b) = absurd (n.0 b.0)
+begun_above s e (st ∷ sts) now pos le (inr n) (inr b) = begun_above s e sts now pos le n.1 b
+begun_above s e (st ∷ sts) now pos le (inl m) b = from (λ le' g. begun_above s e sts (standing_after now st) pos le' m.3 g) m.2 b
   where
-    moved : Moves t top st → st.after ≡ e → (e ≡ t) ⊎ (top < e)
+    moved : Moves now st → st.after ≡ e → (e ≡ now.transmitting) ⊎ (now.pointed < e)
     moved (inl k) h = inl (omega arith)
     moved (inr (inl k)) h = absurd (omega arith)
     moved (inr (inr k)) h = inr (omega arith)
 
-    now : (st.after ≤ last_of top st → Begun s e sts → (e ≡ st.after) ⊎ (last_of top st < e)) → Moves t top st → (st.station ≡ s × st.after ≡ e) ⊎ Begun s e sts → (e ≡ t) ⊎ (top < e)
-    now ih v (inl b) = moved v b.1
-    now ih v (inr b) = elim (last_of-cases top st) [
+    from : (st.after ≤ last_of now.pointed st → Begun s e sts → (e ≡ st.after) ⊎ (last_of now.pointed st < e)) → Moves now st
+        → (st.station ≡ s × st.after ≡ e) ⊎ Begun s e sts → (e ≡ now.transmitting) ⊎ (now.pointed < e)
+    from ih v (inl b) = moved v b.1
+    from ih v (inr b) = elim (last_of-cases now.pointed st) [
       | inl c ↦ elim (ih (omega arith) b) [ inl h ↦ moved v (sym h) | inr h ↦ inr (omega arith) ]
       | inr c ↦ elim (ih (omega arith) b) [ inl h ↦ moved v (sym h) | inr h ↦ inr (omega arith) ]
     ]
@@ -108,29 +110,29 @@ stands-zero s t [] = refl
 stands-zero s t (st ∷ sts) = refl
 
 -- A taken entry stands where its key transmits.
-pub taken_stands : (x : Attempt) → x.refused ≡ false → (sts : List Move) (t top : ℕ) → Follows x.station t top sts → Lives x.station t x.epoch sts → stands x.station t sts (place x sts) ≡ x.epoch
-taken_stands x r [] t top f (inl e) = rw (place-nil x) (stands-zero x.station t [] ∙ e)
-taken_stands x r [] t top f (inr b) = absurd b
-taken_stands x r (st ∷ sts) t top (inr n) l = go (taken_stands x r sts t top n.1) (ends x st) refl
+pub taken_stands : (x : Attempt) → x.refused ≡ false → (sts : List Move) (now : Standing) → Follows x.station now sts → Lives x.station now x.epoch sts → stands x.station now.transmitting sts (place x sts) ≡ x.epoch
+taken_stands x r [] now f (inl e) = rw (place-nil x) (stands-zero x.station now.transmitting [] ∙ e)
+taken_stands x r [] now f (inr b) = absurd b
+taken_stands x r (st ∷ sts) now (inr n) l = go (taken_stands x r sts now n.1) (ends x st) refl
   where
-    rest : Lives x.station t x.epoch (st ∷ sts) → Lives x.station t x.epoch sts
+    rest : Lives x.station now x.epoch (st ∷ sts) → Lives x.station now x.epoch sts
     rest (inl e) = inl e
     rest (inr (inl b)) = absurd (n.0 b.0)
     rest (inr (inr b)) = inr b
 
-    go : (Lives x.station t x.epoch sts → stands x.station t sts (place x sts) ≡ x.epoch) → (b : Bool) → ends x st ≡ b → stands x.station t (st ∷ sts) (place x (st ∷ sts)) ≡ x.epoch
+    go : (Lives x.station now x.epoch sts → stands x.station now.transmitting sts (place x sts) ≡ x.epoch) → (b : Bool) → ends x st ≡ b → stands x.station now.transmitting (st ∷ sts) (place x (st ∷ sts)) ≡ x.epoch
     go ih true h = absurd (n.0 (taken_ends x st r h).here)
-    go ih false h = rw (place-next x st sts h) (stands-other x.station t st sts (place x sts) n.0 ∙ ih (rest l))
-taken_stands x r (st ∷ sts) t top (inl m) l = go (taken_stands x r sts st.after (last_of top st) m.3) (ends x st) refl
+    go ih false h = rw (place-next x st sts h) (stands-other x.station now.transmitting st sts (place x sts) n.0 ∙ ih (rest l))
+taken_stands x r (st ∷ sts) now (inl m) l = go (taken_stands x r sts (standing_after now st) m.3) (ends x st) refl
   where
-    rest : ends x st ≡ false → Lives x.station t x.epoch (st ∷ sts) → Lives x.station st.after x.epoch sts
+    rest : ends x st ≡ false → Lives x.station now x.epoch (st ∷ sts) → Lives x.station (standing_after now st) x.epoch sts
     rest h (inl e) = inl (taken_passed x st r h m.0 (m.1 ∙ e)).1
     rest h (inr (inl b)) = inl b.1
     rest h (inr (inr b)) = inr b
 
-    go : (Lives x.station st.after x.epoch sts → stands x.station st.after sts (place x sts) ≡ x.epoch) → (b : Bool) → ends x st ≡ b → stands x.station t (st ∷ sts) (place x (st ∷ sts)) ≡ x.epoch
-    go ih true h = rw (place-here x st sts h) (stands-zero x.station t (st ∷ sts) ∙ (sym m.1 ∙ (taken_ends x st r h).under))
-    go ih false h = rw (place-next x st sts h) (stands-next x.station t st sts (place x sts) m.0 ∙ ih (rest h l))
+    go : (Lives x.station (standing_after now st) x.epoch sts → stands x.station st.after sts (place x sts) ≡ x.epoch) → (b : Bool) → ends x st ≡ b → stands x.station now.transmitting (st ∷ sts) (place x (st ∷ sts)) ≡ x.epoch
+    go ih true h = rw (place-here x st sts h) (stands-zero x.station now.transmitting (st ∷ sts) ∙ (sym m.1 ∙ (taken_ends x st r h).under))
+    go ih false h = rw (place-next x st sts h) (stands-next x.station now.transmitting st sts (place x sts) m.0 ∙ ih (rest h l))
 
 -- ---- how the places of two entries of a station compare
 
@@ -143,56 +145,56 @@ place_step x y st sts sooner ih = go (ends x st) (ends y st) refl refl
     go false false e f = let k = ih e f in let h = place-next x st sts e in let g = place-next y st sts f in omega arith
 
 -- lives, one step on
-lives_on : (x : Attempt) → x.refused ≡ false → (st : Move) (sts : List Move) (t : ℕ) → st.station ≡ x.station → st.before ≡ t → ends x st ≡ false → Lives x.station t x.epoch (st ∷ sts) → Lives x.station st.after x.epoch sts
-lives_on x r st sts t s b h (inl e) = inl (taken_passed x st r h s (b ∙ e)).1
-lives_on x r st sts t s b h (inr (inl g)) = inl g.1
-lives_on x r st sts t s b h (inr (inr g)) = inr g
+lives_on : (x : Attempt) → x.refused ≡ false → (st : Move) (sts : List Move) (now : Standing) → st.station ≡ x.station → st.before ≡ now.transmitting → ends x st ≡ false → Lives x.station now x.epoch (st ∷ sts) → Lives x.station (standing_after now st) x.epoch sts
+lives_on x r st sts now s b h (inl e) = inl (taken_passed x st r h s (b ∙ e)).1
+lives_on x r st sts now s b h (inr (inl g)) = inl g.1
+lives_on x r st sts now s b h (inr (inr g)) = inr g
 
-lives_past : (s e : ℕ) (st : Move) (sts : List Move) (t : ℕ) → (st.station ≡ s → ⊥) → Lives s t e (st ∷ sts) → Lives s t e sts
-lives_past s e st sts t n (inl h) = inl h
-lives_past s e st sts t n (inr (inl g)) = absurd (n g.0)
-lives_past s e st sts t n (inr (inr g)) = inr g
+lives_past : (s e : ℕ) (st : Move) (sts : List Move) (now : Standing) → (st.station ≡ s → ⊥) → Lives s now e (st ∷ sts) → Lives s now e sts
+lives_past s e st sts now n (inl h) = inl h
+lives_past s e st sts now n (inr (inl g)) = absurd (n g.0)
+lives_past s e st sts now n (inr (inr g)) = inr g
 
 -- what lives and is not below what transmits and lives: e' transmits, so a lower e does not live
-not_both : (s e e' : ℕ) (sts : List Move) (t top : ℕ) → 0 < e → t ≤ top → Follows s t top sts → e < e' → t ≡ e' → Lives s t e sts → ⊥
-not_both s e e' sts t top pos le f lt h (inl k) = omega arith
-not_both s e e' sts t top pos le f lt h (inr b) = elim (begun_above s e sts t top pos le f b) [ inl k ↦ omega arith | inr k ↦ omega arith ]
+not_both : (s e e' : ℕ) (sts : List Move) (now : Standing) → 0 < e → now.transmitting ≤ now.pointed → Follows s now sts → e < e' → now.transmitting ≡ e' → Lives s now e sts → ⊥
+not_both s e e' sts now pos le f lt h (inl k) = omega arith
+not_both s e e' sts now pos le f lt h (inr b) = elim (begun_above s e sts now pos le f b) [ inl k ↦ omega arith | inr k ↦ omega arith ]
 
 last_above : (top : ℕ) (st : Move) → st.after ≤ last_of top st
 last_above top st = elim (last_of-cases top st) [ inl c ↦ omega arith | inr c ↦ omega arith ]
 
-pub taken_taken : (x y : Attempt) → x.refused ≡ false → y.refused ≡ false → y.station ≡ x.station → 0 < x.epoch → x.epoch < y.epoch → (sts : List Move) (t top : ℕ) → t ≤ top → Follows x.station t top sts
-    → Lives x.station t x.epoch sts → place x sts ≤ place y sts
-taken_taken x y r r' s pos up [] t top le f l = let a = place-nil x in omega arith
-taken_taken x y r r' s pos up (st ∷ sts) t top le (inr n) l =
-    place_step x y st sts (λ h. absurd (n.0 ((taken_ends y st r' h).here ∙ s))) (λ e g. taken_taken x y r r' s pos up sts t top le n.1 (lives_past x.station x.epoch st sts t n.0 l))
-taken_taken x y r r' s pos up (st ∷ sts) t top le (inl m) l =
+pub taken_taken : (x y : Attempt) → x.refused ≡ false → y.refused ≡ false → y.station ≡ x.station → 0 < x.epoch → x.epoch < y.epoch → (sts : List Move) (now : Standing) → now.transmitting ≤ now.pointed → Follows x.station now sts
+    → Lives x.station now x.epoch sts → place x sts ≤ place y sts
+taken_taken x y r r' s pos up [] now le f l = let a = place-nil x in omega arith
+taken_taken x y r r' s pos up (st ∷ sts) now le (inr n) l =
+    place_step x y st sts (λ h. absurd (n.0 ((taken_ends y st r' h).here ∙ s))) (λ e g. taken_taken x y r r' s pos up sts now le n.1 (lives_past x.station x.epoch st sts now n.0 l))
+taken_taken x y r r' s pos up (st ∷ sts) now le (inl m) l =
     place_step x y st sts
-    (λ h. absurd (not_both x.station x.epoch y.epoch (st ∷ sts) t top pos le (inl m) up (sym m.1 ∙ (taken_ends y st r' h).under) l))
-    (λ e g. taken_taken x y r r' s pos up sts st.after (last_of top st) (last_above top st) m.3 (lives_on x r st sts t m.0 m.1 e l))
+    (λ h. absurd (not_both x.station x.epoch y.epoch (st ∷ sts) now pos le (inl m) up (sym m.1 ∙ (taken_ends y st r' h).under) l))
+    (λ e g. taken_taken x y r r' s pos up sts (standing_after now st) (last_above now.pointed st) m.3 (lives_on x r st sts now m.0 m.1 e l))
 
-pub taken_refused : (x y : Attempt) → x.refused ≡ false → y.refused ≡ true → y.station ≡ x.station → 0 < x.epoch → x.epoch ≤ y.epoch → (sts : List Move) (t top : ℕ) → t ≤ top → Follows x.station t top sts
-    → Lives x.station t x.epoch sts → place x sts ≤ place y sts
-taken_refused x y r r' s pos up [] t top le f l = let a = place-nil x in omega arith
-taken_refused x y r r' s pos up (st ∷ sts) t top le (inr n) l =
-    place_step x y st sts (λ h. absurd (n.0 ((refused_ends y st r' h).0 ∙ s))) (λ e g. taken_refused x y r r' s pos up sts t top le n.1 (lives_past x.station x.epoch st sts t n.0 l))
-taken_refused x y r r' s pos up (st ∷ sts) t top le (inl m) l =
+pub taken_refused : (x y : Attempt) → x.refused ≡ false → y.refused ≡ true → y.station ≡ x.station → 0 < x.epoch → x.epoch ≤ y.epoch → (sts : List Move) (now : Standing) → now.transmitting ≤ now.pointed → Follows x.station now sts
+    → Lives x.station now x.epoch sts → place x sts ≤ place y sts
+taken_refused x y r r' s pos up [] now le f l = let a = place-nil x in omega arith
+taken_refused x y r r' s pos up (st ∷ sts) now le (inr n) l =
+    place_step x y st sts (λ h. absurd (n.0 ((refused_ends y st r' h).0 ∙ s))) (λ e g. taken_refused x y r r' s pos up sts now le n.1 (lives_past x.station x.epoch st sts now n.0 l))
+taken_refused x y r r' s pos up (st ∷ sts) now le (inl m) l =
     place_step x y st sts (λ h. ended (refused_ends y st r' h).1 l)
-    (λ e g. taken_refused x y r r' s pos up sts st.after (last_of top st) (last_above top st) m.3 (lives_on x r st sts t m.0 m.1 e l))
+    (λ e g. taken_refused x y r r' s pos up sts (standing_after now st) (last_above now.pointed st) m.3 (lives_on x r st sts now m.0 m.1 e l))
   where
-    ended : y.epoch < st.after → Lives x.station t x.epoch (st ∷ sts) → ends x st ≡ true
+    ended : y.epoch < st.after → Lives x.station now x.epoch (st ∷ sts) → ends x st ≡ true
     ended h (inl k) = taken_ends_from x st r (record { here = m.0; under = m.1 ∙ k; over = inr (λ q. omega arith) })
     ended h (inr (inl b)) = absurd (omega arith)
-    ended h (inr (inr b)) = elim (begun_above x.station x.epoch sts st.after (last_of top st) pos (last_above top st) m.3 b) [ inl k ↦ absurd (omega arith) | inr k ↦ absurd (let q = last_above top st in omega arith) ]
+    ended h (inr (inr b)) = elim (begun_above x.station x.epoch sts (standing_after now st) pos (last_above now.pointed st) m.3 b) [ inl k ↦ absurd (omega arith) | inr k ↦ absurd (let q = last_above now.pointed st in omega arith) ]
 
-pub refused_taken : (x y : Attempt) → x.refused ≡ true → y.refused ≡ false → y.station ≡ x.station → x.epoch < y.epoch → (sts : List Move) (t top : ℕ) → t ≤ x.epoch → Follows x.station t top sts
+pub refused_taken : (x y : Attempt) → x.refused ≡ true → y.refused ≡ false → y.station ≡ x.station → x.epoch < y.epoch → (sts : List Move) (now : Standing) → now.transmitting ≤ x.epoch → Follows x.station now sts
     → place x sts ≤ place y sts
-refused_taken x y r r' s up [] t top le f = let a = place-nil x in omega arith
-refused_taken x y r r' s up (st ∷ sts) t top le (inr n) =
-    place_step x y st sts (λ h. absurd (n.0 ((taken_ends y st r' h).here ∙ s))) (λ e g. refused_taken x y r r' s up sts t top le n.1)
-refused_taken x y r r' s up (st ∷ sts) t top le (inl m) =
+refused_taken x y r r' s up [] now le f = let a = place-nil x in omega arith
+refused_taken x y r r' s up (st ∷ sts) now le (inr n) =
+    place_step x y st sts (λ h. absurd (n.0 ((taken_ends y st r' h).here ∙ s))) (λ e g. refused_taken x y r r' s up sts now le n.1)
+refused_taken x y r r' s up (st ∷ sts) now le (inl m) =
     place_step x y st sts (λ h. absurd (let q = (taken_ends y st r' h).under in let b = m.1 in omega arith))
-    (λ e g. refused_taken x y r r' s up sts st.after (last_of top st) (refused_passed x st r e m.0) m.3)
+    (λ e g. refused_taken x y r r' s up sts (standing_after now st) (refused_passed x st r e m.0) m.3)
 
 pub refused_refused : (x y : Attempt) → x.refused ≡ true → y.refused ≡ true → y.station ≡ x.station → x.epoch ≤ y.epoch → (sts : List Move) → place x sts ≤ place y sts
 refused_refused x y r r' s up sts = place_mono x y (λ st h. let q = refused_ends y st r' h in refused_ends_from x st r (q.0 ∙ s) (let b = q.1 in omega arith)) sts
@@ -206,30 +208,30 @@ taken_rises x y r r' s same up sts = place_mono x y (λ st h. let q = taken_ends
 
 -- ---- refused claims are excused
 
-noted_above : (s a : ℕ) (sts : List Move) (t top : ℕ) → Noted s t top a sts → top ≤ a
-noted_above s a [] t top n = let q = n.1 in omega arith
-noted_above s a (st ∷ sts) t top (inl n) = let q = n.1 in omega arith
-noted_above s a (st ∷ sts) t top (inr (inl n)) = let q = n.2 in omega arith
-noted_above s a (st ∷ sts) t top (inr (inr (inl n))) = let q = noted_above s a sts st.after (last_of top st) n.1 in elim (last_of-cases top st) [ inl c ↦ omega arith | inr c ↦ omega arith ]
-noted_above s a (st ∷ sts) t top (inr (inr (inr n))) = noted_above s a sts t top n.1
+noted_above : (s a : ℕ) (sts : List Move) (now : Standing) → Noted s now a sts → now.pointed ≤ a
+noted_above s a [] now n = let q = n.1 in omega arith
+noted_above s a (st ∷ sts) now (inl n) = let q = n.1 in omega arith
+noted_above s a (st ∷ sts) now (inr (inl n)) = let q = n.2 in omega arith
+noted_above s a (st ∷ sts) now (inr (inr (inl n))) = let q = noted_above s a sts (standing_after now st) n.1 in elim (last_of-cases now.pointed st) [ inl c ↦ omega arith | inr c ↦ omega arith ]
+noted_above s a (st ∷ sts) now (inr (inr (inr n))) = noted_above s a sts now n.1
 
 -- where nothing is present, nothing is until the place
-absent : (x : Attempt) → x.refused ≡ true → (sts : List Move) (t top : ℕ) → t ≡ 0 → top ≡ x.epoch → Follows x.station t top sts → stands x.station t sts (place x sts) ≡ 0
-absent x r [] t top z e f = rw (place-nil x) (stands-zero x.station t [] ∙ z)
-absent x r (st ∷ sts) t top z e (inr n) = go (absent x r sts t top z e n.1) (ends x st) refl
+absent : (x : Attempt) → x.refused ≡ true → (sts : List Move) (now : Standing) → now.transmitting ≡ 0 → now.pointed ≡ x.epoch → Follows x.station now sts → stands x.station now.transmitting sts (place x sts) ≡ 0
+absent x r [] now z e f = rw (place-nil x) (stands-zero x.station now.transmitting [] ∙ z)
+absent x r (st ∷ sts) now z e (inr n) = go (absent x r sts now z e n.1) (ends x st) refl
   where
-    go : stands x.station t sts (place x sts) ≡ 0 → (b : Bool) → ends x st ≡ b → stands x.station t (st ∷ sts) (place x (st ∷ sts)) ≡ 0
+    go : stands x.station now.transmitting sts (place x sts) ≡ 0 → (b : Bool) → ends x st ≡ b → stands x.station now.transmitting (st ∷ sts) (place x (st ∷ sts)) ≡ 0
     go ih true h = absurd (n.0 (refused_ends x st r h).0)
-    go ih false h = rw (place-next x st sts h) (stands-other x.station t st sts (place x sts) n.0 ∙ ih)
-absent x r (st ∷ sts) t top z e (inl m) = go (λ z' e'. absent x r sts st.after (last_of top st) z' e' m.3) m.2 (ends x st) refl
+    go ih false h = rw (place-next x st sts h) (stands-other x.station now.transmitting st sts (place x sts) n.0 ∙ ih)
+absent x r (st ∷ sts) now z e (inl m) = go (λ z' e'. absent x r sts (standing_after now st) z' e' m.3) m.2 (ends x st) refl
   where
-    go : (st.after ≡ 0 → last_of top st ≡ x.epoch → stands x.station st.after sts (place x sts) ≡ 0) → Moves t top st → (b : Bool) → ends x st ≡ b → stands x.station t (st ∷ sts) (place x (st ∷ sts)) ≡ 0
-    go ih v true h = rw (place-here x st sts h) (stands-zero x.station t (st ∷ sts) ∙ z)
+    go : (st.after ≡ 0 → last_of now.pointed st ≡ x.epoch → stands x.station st.after sts (place x sts) ≡ 0) → Moves now st → (b : Bool) → ends x st ≡ b → stands x.station now.transmitting (st ∷ sts) (place x (st ∷ sts)) ≡ 0
+    go ih v true h = rw (place-here x st sts h) (stands-zero x.station now.transmitting (st ∷ sts) ∙ z)
     go ih v false h =
         let low = refused_passed x st r h m.0 in
         let none : st.after ≡ 0 = elim v [ inl k ↦ omega arith | inr w ↦ elim w [ inl k ↦ omega arith | inr k ↦ absurd (omega arith) ] ] in
-        let same : last_of top st ≡ x.epoch = elim (last_of-cases top st) [ inl c ↦ absurd (omega arith) | inr c ↦ omega arith ] in
-        rw (place-next x st sts h) (stands-next x.station t st sts (place x sts) m.0 ∙ ih none same)
+        let same : last_of now.pointed st ≡ x.epoch = elim (last_of-cases now.pointed st) [ inl c ↦ absurd (omega arith) | inr c ↦ omega arith ] in
+        rw (place-next x st sts h) (stands-next x.station now.transmitting st sts (place x sts) m.0 ∙ ih none same)
 
 replaced-here : (s : ℕ) (st : Move) (sts : List Move) → st.station ≡ s → st.gap ≡ true → Replaced s (st ∷ sts) 0
 unfolding Replaced
@@ -256,22 +258,22 @@ excused_past x r st sts t n k = go (ends x st) refl k
     go false h (inl k) = inl (rw (place-next x st sts h) (stands-other x.station t st sts (place x sts) n ∙ k))
     go false h (inr k) = inr (rw (place-next x st sts h) (replaced-next x.station st sts (place x sts) k))
 
-pub refused_excused : (x : Attempt) → x.refused ≡ true → (sts : List Move) (t top : ℕ) → Follows x.station t top sts → Noted x.station t top x.epoch sts → Excused x.station t sts (place x sts)
+pub refused_excused : (x : Attempt) → x.refused ≡ true → (sts : List Move) (now : Standing) → Follows x.station now sts → Noted x.station now x.epoch sts → Excused x.station now.transmitting sts (place x sts)
 unfolding Excused
-refused_excused x r [] t top f n = inl (rw (place-nil x) (stands-zero x.station t [] ∙ n.0))
-refused_excused x r (st ∷ sts) t top f (inl n) = inl (absent x r (st ∷ sts) t top n.0 n.1 f)
-refused_excused x r (st ∷ sts) t top (inr f) (inr (inl n)) = absurd (f.0 n.0)
-refused_excused x r (st ∷ sts) t top (inl m) (inr (inl n)) =
-    let up : top < st.after = elim m.2 [ inl k ↦ absurd (true≢false (sym n.1 ∙ k.1)) | inr w ↦ elim w [ inl k ↦ absurd (true≢false (sym n.1 ∙ k.1)) | inr k ↦ k.0 ] ] in
+refused_excused x r [] now f n = inl (rw (place-nil x) (stands-zero x.station now.transmitting [] ∙ n.0))
+refused_excused x r (st ∷ sts) now f (inl n) = inl (absent x r (st ∷ sts) now n.0 n.1 f)
+refused_excused x r (st ∷ sts) now (inr f) (inr (inl n)) = absurd (f.0 n.0)
+refused_excused x r (st ∷ sts) now (inl m) (inr (inl n)) =
+    let up : now.pointed < st.after = elim m.2 [ inl k ↦ absurd (true≢false (sym n.1 ∙ k.1)) | inr w ↦ elim w [ inl k ↦ absurd (true≢false (sym n.1 ∙ k.1)) | inr k ↦ k.0 ] ] in
     let h = refused_ends_from x st r n.0 (let q = n.2 in omega arith) in
     inr (rw (place-here x st sts h) (replaced-here x.station st sts n.0 n.1))
-refused_excused x r (st ∷ sts) t top (inr f) (inr (inr (inl n))) = absurd (f.0 n.0)
-refused_excused x r (st ∷ sts) t top (inl m) (inr (inr (inl n))) =
-    let low : st.after ≤ x.epoch = let q = noted_above x.station x.epoch sts st.after (last_of top st) n.1 in let w = last_above top st in omega arith in
+refused_excused x r (st ∷ sts) now (inr f) (inr (inr (inl n))) = absurd (f.0 n.0)
+refused_excused x r (st ∷ sts) now (inl m) (inr (inr (inl n))) =
+    let low : st.after ≤ x.epoch = let q = noted_above x.station x.epoch sts (standing_after now st) n.1 in let w = last_above now.pointed st in omega arith in
     let h : ends x st ≡ false = elim (cases_Bool (ends x st)) [ inl y ↦ absurd (let q = (refused_ends x st r y).1 in omega arith) | inr y ↦ y ] in
-    excused_on x st sts t n.0 h (refused_excused x r sts st.after (last_of top st) m.3 n.1)
-refused_excused x r (st ∷ sts) t top (inr f) (inr (inr (inr n))) = excused_past x r st sts t f.0 (refused_excused x r sts t top f.1 n.1)
-refused_excused x r (st ∷ sts) t top (inl m) (inr (inr (inr n))) = absurd (n.0 m.0)
+    excused_on x st sts now.transmitting n.0 h (refused_excused x r sts (standing_after now st) m.3 n.1)
+refused_excused x r (st ∷ sts) now (inr f) (inr (inr (inr n))) = excused_past x r st sts now.transmitting f.0 (refused_excused x r sts now f.1 n.1)
+refused_excused x r (st ∷ sts) now (inl m) (inr (inr (inr n))) = absurd (n.0 m.0)
 
 -- ---- ticks are in order
 
@@ -286,42 +288,42 @@ each_at P (u ∷ sts) zero st all a = subst P a all.0
 each_at P (u ∷ sts) (suc j) st all a = each_at P sts j st all.1 a
 
 -- under which epochs a later step stands
-under_lives : (s : ℕ) (sts : List Move) (t top j : ℕ) (st : Move) → Follows s t top sts → IsAt sts j st → st.station ≡ s → Lives s t st.before sts
-under_lives s [] t top j st f a h = absurd a
-under_lives s (u ∷ sts) t top zero st (inl m) a h = inl (sym m.1 ∙ ap (λ w. w.before) a)
-under_lives s (u ∷ sts) t top zero st (inr n) a h = absurd (n.0 (ap (λ w. w.station) a ∙ h))
-under_lives s (u ∷ sts) t top (suc j) st (inr n) a h = elim (under_lives s sts t top j st n.1 a h) [ inl e ↦ inl e | inr b ↦ inr (inr b) ]
-under_lives s (u ∷ sts) t top (suc j) st (inl m) a h = elim (under_lives s sts u.after (last_of top u) j st m.3 a h) [ inl e ↦ inr (inl (m.0, e)) | inr b ↦ inr (inr b) ]
+under_lives : (s : ℕ) (sts : List Move) (now : Standing) (j : ℕ) (st : Move) → Follows s now sts → IsAt sts j st → st.station ≡ s → Lives s now st.before sts
+under_lives s [] now j st f a h = absurd a
+under_lives s (u ∷ sts) now zero st (inl m) a h = inl (sym m.1 ∙ ap (λ w. w.before) a)
+under_lives s (u ∷ sts) now zero st (inr n) a h = absurd (n.0 (ap (λ w. w.station) a ∙ h))
+under_lives s (u ∷ sts) now (suc j) st (inr n) a h = elim (under_lives s sts now j st n.1 a h) [ inl e ↦ inl e | inr b ↦ inr (inr b) ]
+under_lives s (u ∷ sts) now (suc j) st (inl m) a h = elim (under_lives s sts (standing_after now u) j st m.3 a h) [ inl e ↦ inr (inl (m.0, e)) | inr b ↦ inr (inr b) ]
 
-pub tick_above : (x : Attempt) → x.refused ≡ false → 0 < x.epoch → (sts : List Move) (t top : ℕ) → t ≤ top → Follows x.station t top sts → AllGrow sts → (j : ℕ) (st : Move) → IsAt sts j st
+pub tick_above : (x : Attempt) → x.refused ≡ false → 0 < x.epoch → (sts : List Move) (now : Standing) → now.transmitting ≤ now.pointed → Follows x.station now sts → AllGrow sts → (j : ℕ) (st : Move) → IsAt sts j st
     → st.station ≡ x.station → st.before ≡ x.epoch → 0 < st.shown → (place x sts < j) ⊎ (place x sts ≡ j × st.after ≡ x.epoch) → x.number < st.shown
-tick_above x r pos [] t top le f g j st a s b sh o = absurd a
-tick_above x r pos (u ∷ sts) t top le f g zero st a s b sh (inl l) = absurd (omega arith)
-tick_above x r pos (u ∷ sts) t top le f g zero st a s b sh (inr q) = elim (cases_Bool (ends x u)) [
+tick_above x r pos [] now le f g j st a s b sh o = absurd a
+tick_above x r pos (u ∷ sts) now le f g zero st a s b sh (inl l) = absurd (omega arith)
+tick_above x r pos (u ∷ sts) now le f g zero st a s b sh (inr q) = elim (cases_Bool (ends x u)) [
   | inr h ↦ absurd (let e = place-next x u sts h in let w = q.0 in omega arith)
   | inl h ↦ elim (subst (λ w. TakenEnd x w) a (taken_ends x u r h)).over [ inl l ↦ l | inr n ↦ absurd (n q.1) ]
 ]
-tick_above x r pos (u ∷ sts) t top le (inr n) g (suc j) st a s b sh o = elim (cases_Bool (ends x u)) [
+tick_above x r pos (u ∷ sts) now le (inr n) g (suc j) st a s b sh o = elim (cases_Bool (ends x u)) [
   | inl h ↦ absurd (n.0 (taken_ends x u r h).here)
-  | inr h ↦ tick_above x r pos sts t top le n.1 g.1 j st a s b sh (down h o)
+  | inr h ↦ tick_above x r pos sts now le n.1 g.1 j st a s b sh (down h o)
 ]
   where
     down : ends x u ≡ false → (place x (u ∷ sts) < suc j) ⊎ (place x (u ∷ sts) ≡ suc j × st.after ≡ x.epoch) → (place x sts < j) ⊎ (place x sts ≡ j × st.after ≡ x.epoch)
     down h (inl l) = inl (let e = place-next x u sts h in omega arith)
     down h (inr q) = inr (let e = place-next x u sts h in let w = q.0 in omega arith, q.1)
-tick_above x r pos (u ∷ sts) t top le (inl m) g (suc j) st a s b sh o = elim (cases_Bool (ends x u)) [
+tick_above x r pos (u ∷ sts) now le (inl m) g (suc j) st a s b sh o = elim (cases_Bool (ends x u)) [
   | inl h ↦ here (taken_ends x u r h)
-  | inr h ↦ tick_above x r pos sts u.after (last_of top u) (last_above top u) m.3 g.1 j st a s b sh (down h o)
+  | inr h ↦ tick_above x r pos sts (standing_after now u) (last_above now.pointed u) m.3 g.1 j st a s b sh (down h o)
 ]
   where
     here : TakenEnd x u → x.number < st.shown
     here e = elim e.over [
       | inl l ↦ let grown = each_at (Grows u) sts j st g.0 a (s ∙ sym e.here) (b ∙ sym e.under) sh in omega arith
-      | inr n ↦ absurd (elim (under_lives x.station sts u.after (last_of top u) j st m.3 a s) [
+      | inr n ↦ absurd (elim (under_lives x.station sts (standing_after now u) j st m.3 a s) [
         | inl q ↦ n (q ∙ b)
-        | inr q ↦ elim (begun_above x.station st.before sts u.after (last_of top u) (omega arith) (last_above top u) m.3 q) [
+        | inr q ↦ elim (begun_above x.station st.before sts (standing_after now u) (omega arith) (last_above now.pointed u) m.3 q) [
           | inl w ↦ n (sym w ∙ b)
-          | inr w ↦ (let v = e.under in let k = m.1 in elim (last_of-cases top u) [ inl c ↦ omega arith | inr c ↦ omega arith ])
+          | inr w ↦ (let v = e.under in let k = m.1 in elim (last_of-cases now.pointed u) [ inl c ↦ omega arith | inr c ↦ omega arith ])
         ]
       ])
     ]

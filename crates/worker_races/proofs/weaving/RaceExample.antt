@@ -35,7 +35,7 @@ use Rattle.group_safety.proofs.Public.{most_next, next-most, v11, v12}
 use Rattle.worker_races.specs.merge.Places.{Move, Attempt, Lives}
 use Rattle.worker_races.specs.merge.Marks.{Mark, Control, Claim}
 use Rattle.worker_races.specs.merge.Merged.{AllPairs, Differ, InLog, IsFit, entries_of, merged, numbered, sooner}
-use Rattle.worker_races.specs.merge.Raced.{epoch_at, epoch_of, before_of, IsAttempt, IsRaced}
+use Rattle.worker_races.specs.merge.Raced.{epoch_at, epoch_of, standing_at, before_of, IsAttempt, IsRaced}
 use Rattle.worker_races.specs.merge.Raced.{claim_after, user_of, woven}
 use Rattle.worker_races.specs.merge.Steps.{attempt_of, logs_of}
 use Rattle.worker_races.specs.merge.Given.{AreGiven, ArePerformed, AreUnder, IsPast}
@@ -168,7 +168,7 @@ attempt-refused = record {
   none = λ t. refl;
 }
 
-fit-taken : (s pn log : ℕ) → Lives s (epoch_at settings s r11) 1 moves → 1 ≤ pn
+fit-taken : (s pn log : ℕ) → Lives s (standing_at settings s (pointed s) r11) 1 moves → 1 ≤ pn
     → IsFit (before_of settings pointed r11) moves (attempt_of log (frame s pn))
 fit-taken s pn log lives low = record {
   lives = λ t. (omega arith, lives);
@@ -185,10 +185,10 @@ fit-refused = record {
       (omega (arith, none), inl (none, none)));
 }
 
-alice-lives : Lives 0 (epoch_at settings 0 r11) 1 moves
+alice-lives : Lives 0 (standing_at settings 0 (pointed 0) r11) 1 moves
 alice-lives = inl (ap epoch_of alice-sends)
 
-bob-lives : Lives 1 (epoch_at settings 1 r11) 1 moves
+bob-lives : Lives 1 (standing_at settings 1 (pointed 1) r11) 1 moves
 bob-lives = inr (inl (refl, ap epoch_of bob-sends))
 
 alice-in-log : InLog (attempt_of 0 (frame 0 1)) (attempt_of 0 (frame 0 2))

@@ -4,7 +4,7 @@ use Rattle.lan_base.specs.declared.association_number.AssociationNumber.{Associa
 use Rattle.std.proofs.lemmas.Bool.{cond-true, cond-false, cases_lt, cases_Bool, eq-eqb, ne_eqb, eqb-true}
 use Rattle.association_slots.specs.declared.view.Current.{Current}
 use Rattle.association_slots.specs.Views.{In, WasAbsent, absent_after, present_at}
-use Rattle.worker_races.specs.merge.Places.{Move, Follows, Begun, Lives, Noted, last_of}
+use Rattle.worker_races.specs.merge.Places.{Move, Standing, Follows, Begun, Lives, Noted, last_of, standing_after}
 use Rattle.worker_races.specs.merge.Words.{told_by, told_in}
 use Rattle.worker_races.proofs.weaving.PlaceLemmas.{last_of-cases}
 
@@ -34,9 +34,9 @@ in-parts p (q ∷ ps) qs (inr i) = elim (in-parts p ps qs i) [ inl a ↦ inl (in
 
 -- ---- notes
 
-start : (t top a : ℕ) (s : ℕ) (ms : List Move) → t ≡ 0 × top ≡ a → Noted s t top a ms
-start t top a s [] h = h
-start t top a s (m ∷ ms) h = inl h
+start : (now : Standing) (a s : ℕ) (ms : List Move) → now.transmitting ≡ 0 × now.pointed ≡ a → Noted s now a ms
+start now a s [] h = h
+start now a s (m ∷ ms) h = inl h
 
 -- what one step told: a moment within it, or one after it
 moment : (ans : ℕ → AssociationNumber) (top a : ℕ) (m : Move) → AbsentIn (told_by ans top m) a
@@ -57,26 +57,26 @@ moment ans top a m was = go m.gap (eqb m.after m.before) (eqb m.after 0) refl re
     go false false false g p q (inl h) = absurd (true≢false h.0)
     go false false false g p q (inr h) = absurd h
 
-noted-in : (ans : ℕ → AssociationNumber) (s a : ℕ) (ms : List Move) (t top : ℕ) → t ≤ top → Follows s t top ms
-    → AbsentIn (told_in ans s top ms) a → Noted s t top a ms
+noted-in : (ans : ℕ → AssociationNumber) (s a : ℕ) (ms : List Move) (now : Standing) → now.transmitting ≤ now.pointed → Follows s now ms
+    → AbsentIn (told_in ans s now.pointed ms) a → Noted s now a ms
 unfolding told_in AbsentIn
-noted-in ans s a [] t top le f was = absurd was
-noted-in ans s a (m ∷ ms) t top le (inr n) was =
+noted-in ans s a [] now le f was = absurd was
+noted-in ans s a (m ∷ ms) now le (inr n) was =
     inr (inr (inr (
       n.0,
-      noted-in ans s a ms t top le n.1
+      noted-in ans s a ms now le n.1
           (subst (λ ps. AbsentIn ps a) (cond-false (eqb m.station s) _ _ (ne_eqb _ _ n.0)) was),
     )))
-noted-in ans s a (m ∷ ms) t top le (inl f) was =
-    elim (absent-parts (told_in ans s (last_of top m) ms) (told_by ans top m) a
+noted-in ans s a (m ∷ ms) now le (inl f) was =
+    elim (absent-parts (told_in ans s (last_of now.pointed m) ms) (told_by ans now.pointed m) a
     (subst (λ ps. AbsentIn ps a) (cond-true (eqb m.station s) _ _ (eq-eqb _ _ f.0)) was)) [
-      | inl later ↦ inr (inr (inl (f.0, noted-in ans s a ms m.after (last_of top m) (above top m) f.3 later)))
-      | inr here ↦ elim (moment ans top a m here) [
+      | inl later ↦ inr (inr (inl (f.0, noted-in ans s a ms (standing_after now m) (above now.pointed m) f.3 later)))
+      | inr here ↦ elim (moment ans now.pointed a m here) [
         | inl gap ↦ inr (inl (f.0, gap.0, gap.1))
         | inr gone ↦ inr (inr (inl (
           f.0,
-          start m.after (last_of top m) a s ms
-              (gone.0, (elim (last_of-cases top m) [ inl c ↦ (let z = gone.0 in let l = c.0 in absurd (omega (arith, z, l))) | inr c ↦ c.1 ∙ gone.1 ])),
+          start (standing_after now m) a s ms
+              (gone.0, (elim (last_of-cases now.pointed m) [ inl c ↦ (let z = gone.0 in let l = c.0 in absurd (omega (arith, z, l))) | inr c ↦ c.1 ∙ gone.1 ])),
         )))
       ]
     ]
@@ -86,16 +86,16 @@ noted-in ans s a (m ∷ ms) t top le (inl f) was =
 
 -- A note of nothing present after an epoch that is not below the last one before the race was made
 -- where the places ask for it.
-pub noted : (ans : ℕ → AssociationNumber) (s a : ℕ) (ms : List Move) (t top : ℕ) (old : List Current) → t ≤ top → Follows s t top ms
-    → (WasAbsent old a → (a ≤ top) × (0 < t → a < top)) → top ≤ a
-    → WasAbsent (told_in ans s top ms ++ old) a → Noted s t top a ms
-noted ans s a ms t top old le f low high was = elim (was-in (told_in ans s top ms) old a was) [
-  | inl new ↦ noted-in ans s a ms t top le f new
-  | inr before ↦ (let b = low before in start t top a s ms (none b, (let c = b.0 in omega (arith, c, high))))
+pub noted : (ans : ℕ → AssociationNumber) (s a : ℕ) (ms : List Move) (now : Standing) (old : List Current) → now.transmitting ≤ now.pointed → Follows s now ms
+    → (WasAbsent old a → (a ≤ now.pointed) × (0 < now.transmitting → a < now.pointed)) → now.pointed ≤ a
+    → WasAbsent (told_in ans s now.pointed ms ++ old) a → Noted s now a ms
+noted ans s a ms now old le f low high was = elim (was-in (told_in ans s now.pointed ms) old a was) [
+  | inl new ↦ noted-in ans s a ms now le f new
+  | inr before ↦ (let b = low before in start now a s ms (none b, (let c = b.0 in omega (arith, c, high))))
 ]
   where
-    none : (a ≤ top) × (0 < t → a < top) → t ≡ 0
-    none b = elim (cases_lt 0 t) [ inl some ↦ absurd (let c = b.1 some in omega (arith, c, high)) | inr zero ↦ omega (arith, zero) ]
+    none : (a ≤ now.pointed) × (0 < now.transmitting → a < now.pointed) → now.transmitting ≡ 0
+    none b = elim (cases_lt 0 now.transmitting) [ inl some ↦ absurd (let c = b.1 some in omega (arith, c, high)) | inr zero ↦ omega (arith, zero) ]
 
 -- ---- claims
 
@@ -135,13 +135,13 @@ begun-in ans s an e (m ∷ ms) top i = elim (cases_Bool (eqb m.station s)) [
 
 -- A claimed epoch, that is not below the last one before the race, and above it where nothing was
 -- present then, lives in the race.
-pub lives : (ans : ℕ → AssociationNumber) (s : ℕ) (an : AssociationNumber) (e : ℕ) (ms : List Move) (t top : ℕ) (old : List Current) → (0 < t → t ≡ top)
-    → (In (present_at an e) old → e ≤ top) → top ≤ e → (t ≡ 0 → top < e)
-    → In (present_at an e) (told_in ans s top ms ++ old) → Lives s t e ms
-lives ans s an e ms t top old present low high above i =
-    elim (in-parts (present_at an e) (told_in ans s top ms) old i) [
-      | inl new ↦ inr (begun-in ans s an e ms top new).0
-      | inr before ↦ inl (elim (cases_lt 0 t) [
+pub lives : (ans : ℕ → AssociationNumber) (s : ℕ) (an : AssociationNumber) (e : ℕ) (ms : List Move) (now : Standing) (old : List Current)
+    → (0 < now.transmitting → now.transmitting ≡ now.pointed) → (In (present_at an e) old → e ≤ now.pointed) → now.pointed ≤ e → (now.transmitting ≡ 0 → now.pointed < e)
+    → In (present_at an e) (told_in ans s now.pointed ms ++ old) → Lives s now e ms
+lives ans s an e ms now old present low high above i =
+    elim (in-parts (present_at an e) (told_in ans s now.pointed ms) old i) [
+      | inl new ↦ inr (begun-in ans s an e ms now.pointed new).0
+      | inr before ↦ inl (elim (cases_lt 0 now.transmitting) [
         | inl some ↦ (let a = present some in let b = low before in omega (arith, a, b, high))
         | inr zero ↦ absurd (let a = above (omega (arith, zero)) in let b = low before in omega (arith, a, b))
       ])

@@ -84,16 +84,16 @@ module _ (R : Before) (sts : List Move) (ctl : IsControl R sts) where
       go false false e f =
           let live = fx.lives e in let s = h.station in let g = h.log in let m = flag x false e in let n = flag y false f in
           elim (h.taken_taken e f) [
-            | inl k ↦ rank_le (rank sts (Claim y)) (rank sts (Claim x)) (taken_taken x y e f s live.0 k sts _ _ (ctl.pointed x.station) (ctl.follows x.station) live.1) refl (sym s) (inl k) (omega arith)
+            | inl k ↦ rank_le (rank sts (Claim y)) (rank sts (Claim x)) (taken_taken x y e f s live.0 k sts (R.standing x.station) (ctl.pointed x.station) (ctl.follows x.station) live.1) refl (sym s) (inl k) (omega arith)
             | inr k ↦ rank_le (rank sts (Claim y)) (rank sts (Claim x)) (taken_rises x y e f s k.0 (let q = k.1 in omega arith) sts) refl (sym s) (inr (k.0, inr (m ∙ sym n, (let q = k.1 in omega arith)))) (omega arith)
           ]
       go false true e f =
           let live = fx.lives e in let s = h.station in let g = h.log in let m = flag x false e in let n = flag y true f in let k = h.taken_refused e f in
-          rank_le (rank sts (Claim y)) (rank sts (Claim x)) (taken_refused x y e f s live.0 k sts _ _ (ctl.pointed x.station) (ctl.follows x.station) live.1) refl (sym s)
+          rank_le (rank sts (Claim y)) (rank sts (Claim x)) (taken_refused x y e f s live.0 k sts (R.standing x.station) (ctl.pointed x.station) (ctl.follows x.station) live.1) refl (sym s)
           (elim (cases_lt x.epoch y.epoch) [ inl l ↦ inl l | inr l ↦ inr (omega arith, inl (omega arith)) ]) (omega arith)
       go true false e f =
           let note = fx.noted e in let s = h.station in let g = h.log in let k = h.refused_taken e f in let low = ctl.pointed x.station in let up = note.0 in
-          rank_le (rank sts (Claim y)) (rank sts (Claim x)) (refused_taken x y e f s k sts _ (R.pointed x.station) (omega arith) (ctl.follows x.station)) refl (sym s) (inl k) (omega arith)
+          rank_le (rank sts (Claim y)) (rank sts (Claim x)) (refused_taken x y e f s k sts (R.standing x.station) (omega arith) (ctl.follows x.station)) refl (sym s) (inl k) (omega arith)
       go true true e f =
           let s = h.station in let g = h.log in let m = flag x true e in let n = flag y true f in let k = h.refused_refused e f in let l = k.0 in let q = k.1 in
           rank_le (rank sts (Claim y)) (rank sts (Claim x)) (refused_refused x y e f s l sts) refl (sym s)

@@ -4,7 +4,7 @@ use Rattle.std.specs.Prelude.{List, [], ◌∷◌, ◌++◌, map}
 use Rattle.std.specs.List.{AllByRecursion}
 use Rattle.std.specs.Ordering.{is_lt}
 use Rattle.worker_races.specs.declared.merge.rank.Rank.{Rank}
-use Rattle.worker_races.specs.merge.Places.{Move, Attempt, place, Lives, Noted}
+use Rattle.worker_races.specs.merge.Places.{Move, Attempt, Standing, place, Lives, Noted}
 use Rattle.worker_races.specs.merge.Marks.{Mark, Control, Claim}
 use Rattle.worker_races.specs.merge.Ranks.{rank_cmp, in_order}
 
@@ -62,11 +62,10 @@ AreLogged n (log ∷ logs) = AllByRecursion (λ x. x.log ≡ n) log × AreLogged
 
 -- ---- what the run, the seats and the workers say of attempts
 
--- What was before: the epoch that transmits at each station, the last one pointed at, the next
--- number of each, and that next number after the station's last event that is no claim.
+-- What was before: what stands at each station, the next number of each epoch there, and that next
+-- number after the station's last event that is no claim.
 pub record Before : Type 0 where
-  pub standing : ℕ → ℕ
-  pub pointed : ℕ → ℕ
+  pub standing : ℕ → Standing
   pub next_of : ℕ → ℕ → ℕ
   pub settled_of : ℕ → ℕ → ℕ
 
@@ -77,8 +76,8 @@ pub record IsFit (b : Before) (ms : List Move) (x : Attempt) : Type 0 where
   pub lives : x.refused ≡ false
       → (0 < x.epoch) × Lives x.station (b.standing x.station) x.epoch ms
   pub above : x.refused ≡ false → b.next_of x.station x.epoch ≤ x.number
-  pub noted : x.refused ≡ true → (b.pointed x.station ≤ x.epoch)
-      × Noted x.station (b.standing x.station) (b.pointed x.station) x.epoch ms
+  pub noted : x.refused ≡ true → ((b.standing x.station).pointed ≤ x.epoch)
+      × Noted x.station (b.standing x.station) x.epoch ms
 
 -- two taken attempts of a station differ
 abbrev pub Differ : Attempt → Attempt → Type 0

@@ -43,35 +43,47 @@ place x (m ∷ ms) = if ends x m then 0 else suc (place x ms)
 
 -- ---- how the steps of one station go on
 
--- One step of a station at which t transmits, where top is the last epoch pointed at: it keeps the
--- key, drops it, or begins a later one.
-abbrev pub Moves : ℕ → ℕ → Move → Type 0
-Moves t top m = ((m.after ≡ t) × (m.gap ≡ false)) ⊎ (((m.after ≡ 0) × (m.gap ≡ false))
-    ⊎ ((top < m.after) × (m.gap ≡ true → 0 < t)))
+-- what stands at a station: the epoch of the key that transmits, and the last one pointed at, 0 for
+-- none
+pub record Standing : Type 0 where
+  pub transmitting : ℕ
+  pub pointed : ℕ
+
+-- one step of a station keeps the key, drops it, or begins a later one
+abbrev pub Moves : Standing → Move → Type 0
+Moves now m =
+    ((m.after ≡ now.transmitting) × (m.gap ≡ false)) ⊎ (((m.after ≡ 0) × (m.gap ≡ false))
+    ⊎ ((now.pointed < m.after) × (m.gap ≡ true → 0 < now.transmitting)))
 
 -- the last epoch pointed at after a step
 abbrev pub last_of : ℕ → Move → ℕ
 last_of top m = if nat_lt top m.after then m.after else top
 
--- the steps of s, from a moment at which t transmits there and top was pointed at last
-abbrev pub Follows : ℕ → ℕ → ℕ → List Move → Type 0
-Follows s t top [] = Unit {0}
-Follows s t top (m ∷ ms) =
-    ((m.station ≡ s) × (m.before ≡ t) × Moves t top m × Follows s m.after (last_of top m) ms)
-    ⊎ ((m.station ≡ s → ⊥) × Follows s t top ms)
+-- what stands at its station after a step
+abbrev pub standing_after : Standing → Move → Standing
+standing_after now m = record { transmitting = m.after; pointed = last_of now.pointed m }
+
+-- the steps of s from now on
+abbrev pub Follows : ℕ → Standing → List Move → Type 0
+Follows s now [] = Unit {0}
+Follows s now (m ∷ ms) =
+    ((m.station ≡ s) × (m.before ≡ now.transmitting) × Moves now m
+    × Follows s (standing_after now m) ms)
+    ⊎ ((m.station ≡ s → ⊥) × Follows s now ms)
 
 abbrev pub Begun : ℕ → ℕ → List Move → Type 0
 Begun s e [] = ⊥
 Begun s e (m ∷ ms) = ((m.station ≡ s) × (m.after ≡ e)) ⊎ Begun s e ms
 
 -- e transmits at s now, or after a later step
-abbrev pub Lives : ℕ → ℕ → ℕ → List Move → Type 0
-Lives s t e ms = (t ≡ e) ⊎ Begun s e ms
+abbrev pub Lives : ℕ → Standing → ℕ → List Move → Type 0
+Lives s now e ms = (now.transmitting ≡ e) ⊎ Begun s e ms
 
--- at some moment from here on nothing is present at s, and a was pointed at last
-abbrev pub Noted : ℕ → ℕ → ℕ → ℕ → List Move → Type 0
-Noted s t top a [] = (t ≡ 0) × (top ≡ a)
-Noted s t top a (m ∷ ms) =
-    ((t ≡ 0) × (top ≡ a)) ⊎ (((m.station ≡ s) × (m.gap ≡ true) × (top ≡ a))
-    ⊎ (((m.station ≡ s) × Noted s m.after (last_of top m) a ms)
-    ⊎ ((m.station ≡ s → ⊥) × Noted s t top a ms)))
+-- at some moment from now on nothing is present at s, and a was pointed at last
+abbrev pub Noted : ℕ → Standing → ℕ → List Move → Type 0
+Noted s now a [] = (now.transmitting ≡ 0) × (now.pointed ≡ a)
+Noted s now a (m ∷ ms) =
+    ((now.transmitting ≡ 0) × (now.pointed ≡ a))
+    ⊎ (((m.station ≡ s) × (m.gap ≡ true) × (now.pointed ≡ a))
+    ⊎ (((m.station ≡ s) × Noted s (standing_after now m) a ms)
+    ⊎ ((m.station ≡ s → ⊥) × Noted s now a ms)))

@@ -16,7 +16,7 @@ use Rattle.lan_core.specs.Expected.{claim_fact, last_number}
 use Rattle.lan_core.specs.Types.{IsSetting}
 use Rattle.lan_core.specs.Order.{IsWithin, Exists, IsSendable, is_event_of, settled}
 use Rattle.lan_core.specs.Legal.{IsStep, IsLegal, is_replaced}
-use Rattle.worker_races.specs.merge.Places.{Move, Attempt, Follows}
+use Rattle.worker_races.specs.merge.Places.{Move, Attempt, Standing, Follows}
 use Rattle.worker_races.specs.merge.Marks.{Mark, Control, Claim}
 use Rattle.worker_races.specs.merge.Merged.{Before, IsFit, AllPairs, InLog, Differ, AreLogged, entries_of}
 
@@ -29,6 +29,10 @@ epoch_of (Some k) = k.epoch
 
 abbrev pub epoch_at : Settings → ℕ → Run → ℕ
 epoch_at settings s r = epoch_of (transmitting_at settings s r)
+
+-- what stands there, by the last epoch pointed at
+abbrev pub standing_at : Settings → ℕ → ℕ → Run → Standing
+standing_at settings s top r = record { transmitting = epoch_at settings s r; pointed = top }
 
 -- the packet number that an event shows
 abbrev pub shown_of : Event → ℕ
@@ -91,8 +95,7 @@ AreMoves settings users ans r (m ∷ ms) =
 -- those of control's words
 abbrev pub before_of : Settings → (ℕ → ℕ) → Run → Before
 before_of settings pointed r = record {
-  standing = λ s. epoch_at settings s r;
-  pointed = pointed;
+  standing = λ s. standing_at settings s (pointed s) r;
   next_of = λ s e. next settings s e r;
   settled_of = λ s e. next settings s e (settled s r);
 }
@@ -118,7 +121,7 @@ pub record IsRaced (settings : Settings) (users : List UserFrame) (base : ℕ)
   pub legal : IsLegal settings users r
   pub shows : ShowsCore settings ans r
   pub moves : AreMoves settings users ans r ms
-  pub follows : (s : ℕ) → Follows s (epoch_at settings s r) (pointed s) ms
+  pub follows : (s : ℕ) → Follows s (standing_at settings s (pointed s) r) ms
   pub low : (s : ℕ) → epoch_at settings s r ≤ pointed s
   pub claims : AllByRecursion (AllByRecursion (IsAttempt users base ans r)) logs
   pub fit : AllByRecursion (AllByRecursion (IsFit (before_of settings pointed r) ms)) logs

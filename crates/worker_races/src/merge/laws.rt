@@ -18,9 +18,9 @@ ghost use Rattle.lan_core.specs.Order.{is_event_of};
 ghost use Rattle.lan_core.specs.Legal.{IsLegal, IsStep, IsStepped, IsThrifty, is_replaced, unused};
 ghost use Rattle.group_safety.specs.Transmitting.{Carried, CarriesAt, follow, newest};
 ghost use Rattle.worker_races.specs.declared.merge.step.Step.{Step};
-ghost use Rattle.worker_races.specs.merge.Places.{Move, Attempt, Follows, Lives, Noted, place};
+ghost use Rattle.worker_races.specs.merge.Places.{Move, Attempt, Standing, Follows, Lives, Noted, place};
 ghost use Rattle.worker_races.specs.merge.Merged.{merged, entries_of};
-ghost use Rattle.worker_races.specs.merge.Raced.{AreMoves, IsRaced, ShowsCore, epoch_at, woven};
+ghost use Rattle.worker_races.specs.merge.Raced.{AreMoves, IsRaced, ShowsCore, epoch_at, standing_at, woven};
 ghost use Rattle.worker_races.specs.merge.Weaving.{IsWoven, part_of};
 ghost use Rattle.worker_races.specs.merge.Steps.{AreRising, AreSteps, logs_of, moves_of};
 ghost use Rattle.worker_races.specs.merge.Given.{AreGiven, AreUnder, ArePerformed, IsGiven, IsPast};
@@ -92,20 +92,23 @@ pub fn law_control_is_raced()
         (ans : ℕ → ℕ → AssociationNumber) (r : Run)
         (moves : List Move) (s pointed : ℕ) → IsStepped settings users r
         → AreGiven settings users ans r moves → IsPast settings s r pointed
-        → epoch_at settings s r ≤ pointed → Follows s (epoch_at settings s r) pointed moves }
+        → epoch_at settings s r ≤ pointed → Follows s (standing_at settings s pointed r) moves }
 {}
 
 /// A note, or a claimed epoch, of which the words say that it was made in the race or not before
 /// its last epoch, is where the places ask for it.
 pub fn law_words_place_the_logs()
-    ensures noted { (ans : ℕ → AssociationNumber) (s a : ℕ) (moves : List Move) (t top : ℕ)
-        (old : List Current)
-        → t ≤ top → Follows s t top moves → (WasAbsent old a → (a ≤ top) × (0 < t → a < top))
-        → top ≤ a → WasAbsent (told_in ans s top moves ++ old) a → Noted s t top a moves }
+    ensures noted { (ans : ℕ → AssociationNumber) (s a : ℕ) (moves : List Move) (now : Standing)
+        (old : List Current) → now.transmitting ≤ now.pointed → Follows s now moves
+        → (WasAbsent old a → (a ≤ now.pointed) × (0 < now.transmitting → a < now.pointed))
+        → now.pointed ≤ a → WasAbsent (told_in ans s now.pointed moves ++ old) a
+        → Noted s now a moves }
     ensures lives { (ans : ℕ → AssociationNumber) (s : ℕ) (an : AssociationNumber) (e : ℕ)
-        (moves : List Move) (t top : ℕ) (old : List Current)
-        → (0 < t → t ≡ top) → (In (present_at an e) old → e ≤ top) → top ≤ e → (t ≡ 0 → top < e)
-        → In (present_at an e) (told_in ans s top moves ++ old) → Lives s t e moves }
+        (moves : List Move) (now : Standing) (old : List Current)
+        → (0 < now.transmitting → now.transmitting ≡ now.pointed)
+        → (In (present_at an e) old → e ≤ now.pointed) → now.pointed ≤ e
+        → (now.transmitting ≡ 0 → now.pointed < e)
+        → In (present_at an e) (told_in ans s now.pointed moves ++ old) → Lives s now e moves }
 {}
 
 /// What an event of a station tells its current word, by its facts: nothing where the key that

@@ -49,16 +49,17 @@ replaced s (Claim x ∷ zs) = replaced s zs
 -- a mark between those before it and those after it
 abbrev pub InOrder : Before → List Mark → Mark → List Mark → Type 0
 InOrder b past (Control n m) zs =
-    (m.before ≡ now m.station (b.standing m.station) past)
+    (m.before ≡ now m.station (b.standing m.station).transmitting past)
     × (0 < m.shown → m.after ≡ m.before
     → next m.station m.before (b.next_of m.station m.before) past ≤ m.shown)
     × (0 < m.shown → (m.after ≡ m.before → ⊥)
     → settled m.station m.before (b.next_of m.station m.before)
     (b.settled_of m.station m.before) past ≤ m.shown)
 InOrder b past (Claim x) zs =
-    (x.refused ≡ false → (now x.station (b.standing x.station) past ≡ x.epoch)
+    (x.refused ≡ false → (now x.station (b.standing x.station).transmitting past ≡ x.epoch)
     × (next x.station x.epoch (b.next_of x.station x.epoch) past ≤ x.number))
-    × (x.refused ≡ true → (now x.station (b.standing x.station) past ≡ 0) ⊎ replaced x.station zs)
+    × (x.refused ≡ true
+    → (now x.station (b.standing x.station).transmitting past ≡ 0) ⊎ replaced x.station zs)
 
 abbrev pub AreInOrder : Before → List Mark → List Mark → Type 0
 AreInOrder b past [] = Unit {0}
@@ -68,8 +69,8 @@ AreInOrder b past (z ∷ zs) = InOrder b past z zs × AreInOrder b (z ∷ past) 
 
 -- the steps are those of a legal run after what was before
 pub record IsControl (b : Before) (ms : List Move) : Type 0 where
-  pub follows : (s : ℕ) → Follows s (b.standing s) (b.pointed s) ms
-  pub pointed : (s : ℕ) → b.standing s ≤ b.pointed s
+  pub follows : (s : ℕ) → Follows s (b.standing s) ms
+  pub pointed : (s : ℕ) → (b.standing s).transmitting ≤ (b.standing s).pointed
   pub grow : AllGrow ms
   pub keeps : AllByRecursion (λ m. 0 < m.shown → m.after ≡ m.before
       → b.next_of m.station m.before ≤ m.shown) ms
