@@ -2,22 +2,13 @@
 -- under which alice transmits. A worker of alice claims two packet numbers; one of bob is refused,
 -- control lets bob begin the key, and then it claims one. And a part of that race in which two claims of
 -- one log changed places, which is not woven so.
-use Rattle.std.proofs.Common.{◌≡◌, inl, inr, ◌<◌, ◌≤◌, ◌+◌, ◌==◌, ℕ, zero, suc, Bool, true, false}
-use Rattle.std.proofs.Common.{List, [], ◌∷◌, length, map, Some, None, refl, sym, ap, ◌∙◌, subst, arith}
-use Rattle.std.specs.Prelude.{if◌then◌else◌, max, not, replicate, slice_get, slice_index_or}
-use Rattle.std.proofs.lemmas.List.Elements.{All-nil, All-cons}
+use Rattle.std.proofs.Common.{◌≡◌, inl, inr, ◌<◌, ◌≤◌, ℕ, zero, suc, Bool, true}
+use Rattle.std.proofs.Common.{List, [], ◌∷◌, length, map, Some, None, refl, sym, ap, ◌∙◌, arith}
+use Rattle.std.specs.Prelude.{max, not}
 use Rattle.atomic_table.specs.Seated.{TableId}
 use Rattle.lan_base.specs.declared.association_number.AssociationNumber.{AssociationNumber}
-use Rattle.lan_base.specs.declared.association_number.AssociationNumber.TheVariants.{An0, An1, An2, An3}
+use Rattle.lan_base.specs.declared.association_number.AssociationNumber.TheVariants.{An0}
 use Rattle.lan_base.specs.declared.frame.Protected.{Protected}
-use Rattle.lan_base.specs.declared.frame.UserFrame.{UserFrame}
-use Rattle.peer_lists.specs.Acceptance.{refusal, accepted, outcome}
-use Rattle.peer_lists.specs.Peers.{says, hopes, known}
-use Rattle.sak_exchange.specs.Held.{received, latest, old, transmitting}
-use Rattle.mka_station.specs.Lives.{peers_of, keys_of, elected}
-use Rattle.mka_station.specs.Views.{view as view_of}
-use Rattle.mka_station.specs.Tick.{tick_turn}
-use Rattle.mka_station.specs.Hearing.{hear_turn}
 use Rattle.association_slots.specs.Cards.{card_words}
 use Rattle.association_slots.specs.Steps.{new_seat}
 use Rattle.association_slots.specs.Learned.{Learned}
@@ -31,18 +22,15 @@ use Rattle.data_workers.specs.Logs.{IsProtectedBy, claim_of}
 use Rattle.data_workers.specs.Workers.{IsDone, WorkerAt}
 use Rattle.data_workers.specs.declared.entry.Entry.{Entry}
 use Rattle.data_workers.specs.declared.entry.Entry.TheVariants.{Taken, Refused}
-use Rattle.data_workers.specs.declared.sender.Sender.{Sender}
 use Rattle.association_slots.specs.declared.view.SeatView.{SeatView}
-use Rattle.lan_core.specs.declared.event.Event.{Event}
 use Rattle.lan_core.specs.declared.event.Event.TheVariants as events
-use Rattle.lan_core.specs.Claims.{next, user_at}
+use Rattle.lan_core.specs.Claims.{next}
 use Rattle.lan_core.specs.Ledgers.{claims}
-use Rattle.lan_core.specs.Lives.{Life, keys_in, life}
-use Rattle.lan_core.specs.Run.{Happening, Profile, Run, stations}
-use Rattle.group_safety.specs.Accounts.{Account, account_at, numbers_at, shows_at}
-use Rattle.group_safety.specs.Transmitting.{Carried, Carries, CarriesAt, CarriesIn, names, now, sends as sending}
-use Rattle.group_safety.proofs.Public.{settings, alice, bob, first_key, r11, r12, l11, l12, v11, v12, both}
-use Rattle.group_safety.proofs.Public.{a-user, most_next, next-most}
+use Rattle.lan_core.specs.Run.{Run}
+use Rattle.group_safety.specs.Accounts.{account_at, numbers_at, shows_at}
+use Rattle.group_safety.specs.Transmitting.{Carried, CarriesAt, names, now, sends as sending}
+use Rattle.group_safety.proofs.Public.{settings, alice, bob, first_key, r11, r12, l11, l12, v11, v12}
+use Rattle.group_safety.proofs.Public.{most_next, next-most}
 use Rattle.worker_races.specs.merge.Merged.{entries_of, merged}
 use Rattle.worker_races.specs.merge.Marks.{Mark}
 use Rattle.worker_races.specs.merge.Places.{Move}
@@ -53,23 +41,18 @@ use Rattle.worker_races.proofs.weaving.WovenExample.{begins_key, in-this-order, 
 use Rattle.worker_races.proofs.weaving.WovenRun.{race-woven}
 use Rattle.station_words.specs.Counting.{past_claims, times_in}
 use Rattle.station_words.specs.Telling.{CatchUp, KeepUp}
-use Rattle.station_words.specs.Ties.{AreTiedBy, HaveCaughtUp, HaveKeptUp, IsTiedBy}
+use Rattle.station_words.specs.Ties.{HaveCaughtUp, HaveKeptUp}
 use Rattle.station_words.proofs.Public.{looked-none}
 use Rattle.worker_races.specs.Beside.{Race, WereBeside, ans_in, attempts_in, moves_in, part_in, pointed_in}
-use Rattle.worker_races.specs.Going.{WasTold, words_by}
 use Rattle.worker_races.specs.Performed.{happenings}
-use Rattle.worker_races.specs.Senders.{IsNew, IsSender}
 use Rattle.worker_races.proofs.Races.{race-is}
+use Rattle.worker_races.proofs.Cases.{all-false, by-an, only}
+use Rattle.worker_races.proofs.TwoStations.{both-done, both-new, both-tied, both-told, carries-in, event_of, is-sender, next-some, open_histories, sender, worker}
 use Rattle.worker_races.proofs.WordsExample.{claim, its-words, its_card, none-told, none_out, one-told}
-use Rattle.worker_races.proofs.WordsExample.{one_out, only, reads, sends, sends-learned, two-told, waits}
+use Rattle.worker_races.proofs.WordsExample.{one_out, reads, sends, sends-learned, two-told, waits}
 use Rattle.worker_races.proofs.WordsExample.{waits-learned, words}
 
 -- ---- the accounts of the stations
-
-unfoldable open_histories : ℕ
-unfolding refusal accepted outcome says hopes known received latest old transmitting peers_of
-    keys_of elected view_of hear_turn tick_turn
-open_histories = 0
 
 -- the key is installed, and transmits or not
 abbrev carries_none : Carried
@@ -77,10 +60,6 @@ carries_none = record { points = []; installs = 1 }
 
 abbrev carries_one : Carried
 carries_one = record { points = sending An0 1 ∷ []; installs = 1 }
-
-carries-in : (s : ℕ) (r : Run) (l : Life) (k : Carried) → life settings s r ≡ Some l
-    → Carries l.member.base (keys_in l) k → CarriesAt settings s r k
-carries-in s r l k living carries = subst (λ o. CarriesIn o k) (sym living) carries
 
 alice-carries : CarriesAt settings 0 r11 carries_one
 unfolding open_histories
@@ -101,11 +80,6 @@ bob-now : CarriesAt settings 1 r12 carries_one
 unfolding open_histories
 bob-now = carries-in 1 r12 (l12 1) carries_one (v12.living 1 (omega arith))
     (record { installs = refl; shows = refl; last = inr refl })
-
-next-some : (s e : ℕ) (r : Run) → 1 ≤ next settings s e r
-unfolding next
-next-some s e [] = omega arith
-next-some s e (x ∷ r) = let h = next-some s e r in omega (arith, h)
 
 -- nobody claimed a number, and no tick showed one
 record IsFresh (r : Run) : Type 0 where
@@ -139,13 +113,6 @@ fresh-after = record {
 }
 
 -- ---- the words keep up with them
-
-by-an : (P : AssociationNumber → Type 0) → P An0 → P An1 → P An2 → P An3
-    → (an : AssociationNumber) → P an
-by-an P a b c d An0 = a
-by-an P a b c d An1 = b
-by-an P a b c d An2 = c
-by-an P a b c d An3 = d
 
 waits-up : (s : ℕ) (r : Run) (out : List Bool) → length out ≡ 8 → IsFresh r → s < 2
     → KeepUp (account_at settings s r carries_none) (waits out)
@@ -192,33 +159,7 @@ caught-up s r k c is none all up = record {
       ∙ ap (λ (ns : List (ℕ × ℕ)). times_in epoch pn ns) (sym (is.none s));
 }
 
-all-false : (n i : ℕ) → slice_index_or (replicate n false) i false ≡ false
-all-false zero i = refl
-all-false (suc n) zero = refl
-all-false (suc n) (suc i) = all-false n i
-
--- the words of two stations say it, where each says it
-both-tied : (Says : Account → ControlView → Type 0) (r : Run) (j k : Carried) (c d : ControlAt)
-    → stations r ≡ both → CarriesAt settings 0 r j → Says (account_at settings 0 r j) c.view
-    → CarriesAt settings 1 r k → Says (account_at settings 1 r k) d.view
-    → AreTiedBy Says settings r (c ∷ d ∷ [])
-both-tied Says r j k c d there first says second tells = record {
-  many = sym (ap length there);
-  each = each;
-}
-  where
-    each : (s : ℕ) (x : ControlAt) → slice_get (c ∷ d ∷ []) s ≡ Some x → IsTiedBy Says settings s r x
-    each zero x at = let same : c ≡ x = cc at in subst (λ (v : ControlAt). IsTiedBy Says settings 0 r v) same (j, first, says)
-    each (suc zero) x at = let same : d ≡ x = cc at in subst (λ (v : ControlAt). IsTiedBy Says settings 1 r v) same (k, second, tells)
-    each (suc (suc s)) x at = absurd (cc at)
-
 -- ---- the logs
-
-abbrev user : UserFrame
-user = record { destination = record { 0 = replicate 6 1 }; body = 8 ∷ 0 ∷ 1 ∷ [] }
-
-abbrev sender : ℕ → Sender
-sender s = record { station = s; sci = if s == 0 then alice.sci else bob.sci; user = user }
 
 -- ciphers stay closed
 unfoldable pub octets : ℕ → ℕ → List ℕ
@@ -299,19 +240,13 @@ bob-took = record {
 }
 
 module _ (a_table b_table : TableId) where
-  abbrev worker : ℕ → TableId → SeatView → WorkerAt
-  worker s table seat = record { sender = sender s; seat = record { table = table; view = seat }; jobs = 2; log = [] }
-
-  abbrev done : ℕ → TableId → SeatView → List Entry → WorkerAt
-  done s table seat log = record { sender = sender s; seat = record { table = table; view = seat }; jobs = 0; log = log }
-
   abbrev begun : List WorkerAt
-  begun = worker 0 a_table alice_seat ∷ worker 1 b_table bob_seat ∷ []
+  begun = worker 0 a_table alice_seat 2 [] ∷ worker 1 b_table bob_seat 2 [] ∷ []
 
   abbrev ended : List WorkerAt
-  ended = done 0 a_table alice_did alices ∷ done 1 b_table bob_did bobs ∷ []
+  ended = worker 0 a_table alice_did 0 alices ∷ worker 1 b_table bob_did 0 bobs ∷ []
 
-  alice-done : IsDone (worker 0 a_table alice_seat) (done 0 a_table alice_did alices)
+  alice-done : IsDone (worker 0 a_table alice_seat 2 []) (worker 0 a_table alice_did 0 alices)
   alice-done = record {
     same = record { sender = refl; table = refl };
     none = refl;
@@ -331,7 +266,7 @@ module _ (a_table b_table : TableId) where
     };
   }
 
-  bob-done : IsDone (worker 1 b_table bob_seat) (done 1 b_table bob_did bobs)
+  bob-done : IsDone (worker 1 b_table bob_seat 2 []) (worker 1 b_table bob_did 0 bobs)
   bob-done = record {
     same = record { sender = refl; table = refl };
     none = refl;
@@ -346,35 +281,6 @@ module _ (a_table b_table : TableId) where
       entries = ((refl, (inl refl, omega arith)), (bob-took, tt));
       in_order = (((omega arith, omega arith), tt), (tt, tt));
     };
-  }
-
-  done-each : (i : ℕ) (d : WorkerAt) → i < 2 → IsDone (slice_index_or begun i d) (slice_index_or ended i d)
-  done-each zero d less = alice-done
-  done-each (suc zero) d less = bob-done
-  done-each (suc (suc i)) d less = absurd (omega (arith, less))
-
-  is-new : (w : WorkerAt) → w.log ≡ [] → IsNew w
-  is-new w none = record {
-    empty = none;
-    logged = rw none (record {
-      number = refl;
-      start = refl;
-      loads = omega arith;
-      claims_are = refl;
-      notes_are = refl;
-      entries = tt;
-      in_order = tt;
-    });
-  }
-
-  is-sender : (s : ℕ) (profile : Profile) (there : slice_get both s ≡ Some profile) → profile.sci ≡ (sender s).sci
-      → user_at twice (1 + s) ≡ Some user → IsSender twice r11 (1 + s) (sender s)
-  is-sender s profile there sci named = record {
-    profile = profile;
-    placed = ap (λ ps. slice_get ps s) v11.there ∙ there;
-    sci = sci;
-    user = named;
-    sendable = a-user;
   }
 
   -- ---- the words
@@ -428,14 +334,6 @@ module _ (a_table b_table : TableId) where
       alice-still (sends-up 0 r12 a_out a_told a_notes a_read fresh-after (omega arith) a)
       bob-now (sends-up 1 r12 b_out b_told b_notes b_read fresh-after (omega arith) b)
 
-  told-each : (s : ℕ) (d : ControlAt) → slice_get moved s ≡ Some d → (c : ControlAt)
-      × (slice_get shared s ≡ Some c) × WasTold (words_by settings r11 1 (newest r12) s c.view) c.view d.view
-  told-each zero d at = let same : record { table = a_table; view = sends one_out [] [] [] } ≡ d = cc at in
-      (_, refl, subst (λ (x : ControlAt). WasTold [] (sends one_out [] [] []) x.view) same (record { points = refl; seats = refl }))
-  told-each (suc zero) d at = let same : record { table = b_table; view = sends one_out [] [] [] } ≡ d = cc at in
-      (_, refl, subst (λ (x : ControlAt). WasTold (present_at An0 1 ∷ []) (waits one_out) x.view) same (record { points = refl; seats = refl }))
-  told-each (suc (suc s)) d at = absurd (cc at)
-
   -- ---- the race
 
   abbrev pub race : Race
@@ -467,11 +365,12 @@ module _ (a_table b_table : TableId) where
       record { control = _; there = refl; seat_is = refl; new_is = refl },
       (shared, record { control = _; there = refl; seat_is = refl; new_is = refl }, refl),
     );
-    senders = (is-sender 0 alice refl refl refl, (is-sender 1 bob refl refl refl, tt));
-    new = All-cons IsNew (worker 0 a_table alice_seat) (worker 1 b_table bob_seat ∷ [])
-        (is-new (worker 0 a_table alice_seat) refl)
-        (All-cons IsNew (worker 1 b_table bob_seat) [] (is-new (worker 1 b_table bob_seat) refl) (All-nil IsNew));
-    done = record { count = refl; each = done-each };
+    senders = (
+      is-sender twice r11 1 0 alice v11.there refl refl refl,
+      (is-sender twice r11 2 1 bob v11.there refl refl refl, tt),
+    );
+    new = both-new _ _ refl refl;
+    done = both-done _ _ _ _ alice-done bob-done;
     performed = (
       record {
         step = legal-after.stepped.0;
@@ -482,7 +381,11 @@ module _ (a_table b_table : TableId) where
       },
       tt,
     );
-    gone = (moved, record { many = refl; each = told-each }, refl);
+    gone = (
+      moved,
+      both-told r11 1 (newest r12) _ _ _ _ (record { points = refl; seats = refl }) (record { points = refl; seats = refl }),
+      refl,
+    );
     keep_up = kept one_out one_out [] [] [] [] [] [] alice-out alice-out;
     looked = looked-none moved;
     joined = (
@@ -505,9 +408,6 @@ module _ (a_table b_table : TableId) where
   one-move : moves_in race ≡ begins_key 0 1 ∷ []
   one-move = ap (λ (n : ℕ). begins_key n (epoch_at settings 1 r12) ∷ []) (ap epoch_of bob-waits)
       ∙ ap (λ (n : ℕ). begins_key 0 n ∷ []) (ap epoch_of bob-sends)
-
-  abbrev event_of : Happening → Event
-  event_of h = h.event
 
   -- the refusal, control, and all else behind it: alice's claims first
   these-events : map event_of (part_in race)

@@ -1,8 +1,7 @@
 -- The cards of words that a race leaves, and of those of a station that is about to start.
-use Rattle.std.proofs.Common.{◌≡◌, ◌<◌, ℕ, zero, suc, List, [], ◌∷◌, ◌++◌, length, Some, refl, sym, ap, ◌∙◌, subst, arith}
+use Rattle.std.proofs.Common.{◌≡◌, ◌<◌, ℕ, List, [], ◌∷◌, ◌++◌, length, Some, refl, sym, ap, ◌∙◌, subst, arith}
 use Rattle.std.proofs.Common.{inl, inr}
-use Rattle.std.proofs.lemmas.Bool.{cases_Bool, cases_lt}
-use Rattle.std.specs.Prelude.{slice_get}
+use Rattle.std.proofs.lemmas.Bool.{cases_lt}
 use Rattle.lan_base.specs.declared.frame.UserFrame.{UserFrame}
 use Rattle.sak_exchange.specs.declared.held_key.Key.{Key}
 use Rattle.association_slots.specs.Cards.{card_at}
@@ -12,12 +11,13 @@ use Rattle.association_slots.specs.declared.view.ControlView.{ControlView}
 use Rattle.data_workers.specs.Workers.{WorkerAt}
 use Rattle.lan_core.specs.declared.settings.Settings.{Settings}
 use Rattle.lan_core.specs.Legal.{IsStepped}
-use Rattle.lan_core.specs.Lives.{life}
-use Rattle.lan_core.specs.Parts.{AreAlike, followed_by, is_claim, without_claims}
+use Rattle.lan_core.specs.Parts.{followed_by}
 use Rattle.lan_core.specs.Run.{Happening, Run, stations}
-use Rattle.lan_core.proofs.Public.{alike-event, alike-itself, claim-alike, stepped-front}
-use Rattle.worker_races.specs.merge.Sealing.{AreCards, HasInLife, HasInstalled}
+use Rattle.lan_core.proofs.Public.{alike-itself}
+use Rattle.group_safety.proofs.Public.{get-more}
+use Rattle.worker_races.specs.merge.Sealing.{AreCards, HasInstalled}
 use Rattle.worker_races.specs.merge.Weaving.{IsWoven}
+use Rattle.worker_races.proofs.weaving.Installed.{installed-without}
 use Rattle.worker_races.proofs.weaving.NoStation.{none-there}
 use Rattle.station_words.specs.Seats.{HasJoined, WasSeated}
 use Rattle.station_words.specs.Ties.{HaveLooked, KeepCards}
@@ -74,38 +74,7 @@ placed settings users s k r stepped has = elim (cases_lt s (length (stations r))
   | inr past ↦ absurd (none-installed settings users s k r stepped (none-there settings users s r stepped past) has)
 ]
 
-installed-now : (settings : Settings) (s : ℕ) (k : Key) (q : Run) → HasInLife k (life settings s q) → HasInstalled settings s k q
-unfolding life
-installed-now settings s k [] has = absurd has
-installed-now settings s k (x ∷ q) has = inl has
-
--- what was installed with claims beside was so without them
-installed-alone : (settings : Settings) (users : List UserFrame) (s : ℕ) (k : Key) (part : List Happening) (q c : Run)
-    → IsStepped settings users (followed_by part q) → AreAlike settings q c
-    → (HasInstalled settings s k q → HasInstalled settings s k c)
-    → HasInstalled settings s k (followed_by part q) → HasInstalled settings s k (followed_by (without_claims part) c)
-installed-alone settings users s k [] q c stepped alike on has = on has
-installed-alone settings users s k (x ∷ part) q c stepped alike on has = elim (cases_Bool (is_claim x.event)) [
-  | inl claim ↦ (let then = claim-alike settings users x q c (stepped-front settings users part (x ∷ q) stepped).0 claim alike in
-      rw claim (installed-alone settings users s k part (x ∷ q) c stepped then
-      (λ h. elim h [
-        | inl now ↦ installed-now settings s k c (subst (HasInLife k) (then.lives s) now)
-        | inr before ↦ on before
-      ]) has))
-  | inr other ↦ (let then = alike-event settings q c alike x in
-      rw other (installed-alone settings users s k part (x ∷ q) (x ∷ c) stepped then
-      (λ h. elim h [
-        | inl now ↦ inl (subst (HasInLife k) (then.lives s) now)
-        | inr before ↦ inr (on before)
-      ]) has))
-]
-
 -- ---- a station that is about to start
-
-front-stays : {A : Type 0} (xs ys : List A) (n : ℕ) (a : A) → slice_get xs n ≡ Some a → slice_get (xs ++ ys) n ≡ Some a
-front-stays [] ys n a is = absurd (cc is)
-front-stays (x ∷ xs) ys zero a is = is
-front-stays (x ∷ xs) ys (suc n) a is = front-stays xs ys n a is
 
 pub carded-more : (settings : Settings) (users : List UserFrame) (r : Run) (cs : List ControlAt) (c : ControlAt)
     → IsStepped settings users r → length cs ≡ length (stations r) → AreCarded settings r cs
@@ -113,7 +82,7 @@ pub carded-more : (settings : Settings) (users : List UserFrame) (r : Run) (cs :
 carded-more settings users r cs c stepped many carded s d there k has =
     let less = placed settings users s k r stepped has in
     let some = some-at cs s (omega (arith, less, many)) in
-    let both : Some some.0 ≡ Some d = sym (front-stays cs (c ∷ []) s some.0 some.1) ∙ there in
+    let both : Some some.0 ≡ Some d = sym (get-more cs (c ∷ []) s some.0 some.1) ∙ there in
     let same : some.0 ≡ d = cc both in
     subst (λ (e : ControlAt). card_at e.view k.epoch ≡ record { sak = k.sak; conf = k.conf }) same
     (carded s some.0 some.1 k has)
@@ -144,5 +113,5 @@ module _ (race : Race) (is : WereBeside race)
   cards-behind part woven whole s c there k has =
       after s c there k
       (subst (λ hs. HasInstalled race.settings s k (followed_by hs race.run)) woven.control
-      (installed-alone race.settings race.users s k part race.run race.run whole
+      (installed-without race.settings race.users s k part race.run race.run whole
       (alike-itself race.settings race.run) (λ h. h) has))

@@ -12,8 +12,6 @@ use Rattle.sak_exchange.specs.declared.held_key.Key.{Key}
 use Rattle.sak_exchange.specs.Histories.{Keying, began, install_count, installed, installs, ticked}
 use Rattle.sak_exchange.specs.Held.{KeepsRules}
 use Rattle.sak_exchange.specs.Lives.{Has}
-use Rattle.mka_station.specs.Hearing.{hear_turn}
-use Rattle.mka_station.specs.Lives.{keys_of}
 use Rattle.lan_core.specs.declared.fact.Fact.{Fact}
 use Rattle.lan_core.specs.declared.fact.Fact.TheVariants as facts
 use Rattle.lan_core.specs.declared.settings.Settings.{Settings}
@@ -21,10 +19,10 @@ use Rattle.lan_core.specs.Counted.{AreCounted}
 use Rattle.lan_core.specs.Keys.{held_at}
 use Rattle.lan_core.specs.Ledgers.{Install, gather, install_of, installs as ledger, installs_at}
 use Rattle.lan_core.specs.Legal.{IsStep, IsStepped}
-use Rattle.lan_core.specs.Lives.{Life, keys_in, life, lived, sak_in, seen_at, turn_at_tick}
+use Rattle.lan_core.specs.Lives.{Life, keys_in, life}
 use Rattle.lan_core.specs.Run.{Happening, Run}
 use Rattle.lan_core.proofs.Public.{lives-count}
-use Rattle.group_safety.proofs.Public.{hear-is_turn, in-contains, kept-turn, part, tick-is_turn}
+use Rattle.group_safety.proofs.Public.{in-contains, part}
 use Rattle.group_safety.proofs.Public as parts
 use Rattle.group_safety.specs.Transmitting.{Carried, CarriesAt, CarriesIn}
 use Rattle.association_slots.specs.Cards.{card_at}
@@ -32,33 +30,9 @@ use Rattle.association_slots.specs.declared.view.ControlView.{ControlView}
 use Rattle.sak_exchange.proofs.Public.{by_option}
 use Rattle.station_words.specs.Ties.{HasCarded}
 use Rattle.worker_races.specs.merge.Sealing.{HasInLife, HasInstalled}
+use Rattle.worker_races.proofs.weaving.FromRun.{kept-run}
+use Rattle.worker_races.proofs.weaving.Installed.{installed-now}
 use Rattle.worker_races.proofs.KeysNew.{new-held, new-or-old, new-shown}
-
--- ---- the rules on keys are kept in each life
-
-keys-new : (l : Life) → l.past ≡ [] → keys_in l ≡ []
-unfolding keys_of
-keys-new l none = rw none refl
-
-kept-run : (settings : Settings) (users : List UserFrame) (r : Run) → IsStepped settings users r
-    → (u : ℕ) (l : Life) → life settings u r ≡ Some l → KeepsRules l.member.base (keys_in l)
-unfolding life
-kept-run settings users [] stepped u l e = absurd (cc e)
-kept-run settings users (x ∷ r) stepped u l e = elim (part settings users u x r stepped.0) [
-  | parts.same same none ↦ kept-run settings users r stepped.1 u l (sym same ∙ e)
-  | parts.ticks next m ev living same ↦ (
-      let now : lived m (turn_at_tick settings u r m next (sak_in x.facts)) ≡ l = let f = sym same ∙ e in cc f in
-      subst (λ (w : Life). KeepsRules w.member.base (keys_in w)) now
-      (kept-turn m.member.base (keys_in m) _ (tick-is_turn m.member (seen_at settings u r m next) (sak_in x.facts) m.past)
-      (kept-run settings users r stepped.1 u m living)))
-  | parts.hears number octets m a came living sec right same ↦ (
-      let now : lived m (hear_turn m.member a m.past) ≡ l = let f = sym same ∙ e in cc f in
-      subst (λ (w : Life). KeepsRules w.member.base (keys_in w)) now
-      (kept-turn m.member.base (keys_in m) _ (hear-is_turn m.member a m.past) (kept-run settings users r stepped.1 u m living)))
-  | parts.born m none birth same fact ↦ (
-      let now : m ≡ l = let f = sym same ∙ e in cc f in
-      subst (λ (w : Life). KeepsRules w.member.base (keys_in w)) now (subst (λ w. KeepsRules m.member.base w) (sym (keys-new m none)) tt))
-]
 
 -- ---- epochs of installed keys
 
@@ -111,12 +85,6 @@ epoch-low settings users s k (x ∷ r) stepped (inl now) =
 epoch-low settings users s k (x ∷ r) stepped (inr before) =
     let low = epoch-low settings users s k r stepped.1 before in
     let more = more-installs s x r in let most = low.1 in (low.0, omega (arith, most, more))
-
-was-installed : (settings : Settings) (s : ℕ) (k : Key) (r : Run) → HasInLife k (life settings s r)
-    → HasInstalled settings s k r
-unfolding life
-was-installed settings s k [] has = absurd has
-was-installed settings s k (x ∷ r) has = inl has
 
 -- where no life is, nothing was installed
 none-before : (settings : Settings) (users : List UserFrame) (s : ℕ) (x : Happening) (r : Run)
@@ -173,7 +141,7 @@ module _ (settings : Settings) (users : List UserFrame) (s : ℕ) (x : Happening
       → card_at new k.epoch ≡ record { sak = k.sak; conf = k.conf }
   cards-on k (inr has) = was k has
   cards-on k (inl now) = elim (new-or-old settings users s x r k stepped step now) [
-    | inl had ↦ was k (was-installed settings s k r had)
+    | inl had ↦ was k (installed-now settings s k r had)
     | inr new_key ↦ (let shown = new-shown settings s x r k counted new_key in
         let h = holds shown.id shown.an k.epoch shown.sak (in-contains x.facts _ shown.fact) in
         let living = some-life k (life settings s (x ∷ r)) now in

@@ -16,7 +16,9 @@ pub mod CardsOn
 pub mod Carded
 pub mod CardsBehind
 mod Examples
+mod Cases
 mod WordsExample
+mod TwoStations
 pub mod BesideExample
 mod RolloverWords
 mod RolloverExample

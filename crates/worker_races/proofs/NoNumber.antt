@@ -7,7 +7,6 @@ use Rattle.lan_base.specs.declared.frame.UserFrame.{UserFrame}
 use Rattle.sak_exchange.specs.declared.held_key.Key.{Key}
 use Rattle.lan_core.specs.declared.event.Event.{Event}
 use Rattle.lan_core.specs.declared.event.Event.TheVariants as events
-use Rattle.lan_core.specs.declared.fact.Fact.{Fact}
 use Rattle.lan_core.specs.declared.fact.Fact.TheVariants as facts
 use Rattle.lan_core.specs.declared.settings.Settings.{Settings}
 use Rattle.lan_core.specs.Claims.{after_claim, next, shown_by}
@@ -17,7 +16,8 @@ use Rattle.lan_core.specs.Lives.{transmitting_at}
 use Rattle.lan_core.specs.Order.{Exists, IsAllowed}
 use Rattle.lan_core.specs.Parts.{followed_by}
 use Rattle.lan_core.specs.Run.{Happening, Run, started, stations}
-use Rattle.lan_core.proofs.Public.{AreOther, IsClaim, is-claim, stepped-front}
+use Rattle.lan_core.proofs.Public.{IsClaim, is-claim, stepped-front}
+use Rattle.worker_races.proofs.weaving.Agree.{after-other}
 
 stations-grow : (part : List Happening) (r : Run) → length (stations r) ≤ length (stations (followed_by part r))
 unfolding stations
@@ -25,12 +25,6 @@ stations-grow [] r = omega arith
 stations-grow (x ∷ part) r =
     let rest = stations-grow part (x ∷ r) in
     let more = length-append (stations r) (started x.event) in omega (arith, rest, more)
-
-none-of-others : (s e : ℕ) (shown : List Fact) → AreOther shown → after_claim s e shown ≡ 0
-none-of-others s e [] are = refl
-none-of-others s e (facts.Claimed t an epoch pn ∷ later) are = absurd are
-none-of-others s e (facts.Unclaimed t why ∷ later) are = refl
-none-of-others s e (fact ∷ later) are = refl
 
 none-claimed : (settings : Settings) (s e t pn : ℕ) (r : Run) (o : Option Key) → (t == s) ≡ false
     → after_claim s e (claim_fact settings t r pn o ∷ []) ≡ 0
@@ -53,11 +47,11 @@ none-shown settings users s epoch x r (events.Tick t shown) may told past =
 none-shown settings users s epoch x r (events.Claim t user pn) may told past =
     ap (after_claim s epoch) (sym told)
     ∙ none-claimed settings s epoch t pn r (transmitting_at settings t r) (elsewhere s t r may.0 past)
-none-shown settings users s epoch x r (events.Start name sci priority) may told past = none-of-others s epoch x.facts told
-none-shown settings users s epoch x r (events.Deliver frame t) may told past = none-of-others s epoch x.facts told
-none-shown settings users s epoch x r (events.Restart t) may told past = none-of-others s epoch x.facts told
-none-shown settings users s epoch x r events.Emit may told past = none-of-others s epoch x.facts told
-none-shown settings users s epoch x r (events.Inject t octets) may told past = none-of-others s epoch x.facts told
+none-shown settings users s epoch x r (events.Start name sci priority) may told past = after-other s epoch x.facts told
+none-shown settings users s epoch x r (events.Deliver frame t) may told past = after-other s epoch x.facts told
+none-shown settings users s epoch x r (events.Restart t) may told past = after-other s epoch x.facts told
+none-shown settings users s epoch x r events.Emit may told past = after-other s epoch x.facts told
+none-shown settings users s epoch x r (events.Inject t octets) may told past = after-other s epoch x.facts told
 
 next-one : (settings : Settings) (users : List UserFrame) (s epoch : ℕ) (x : Happening) (r : Run) → IsStep settings users x r
     → length (stations r) ≤ s → next settings s epoch (x ∷ r) ≡ next settings s epoch r

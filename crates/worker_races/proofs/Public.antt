@@ -18,6 +18,9 @@ pub use Rattle.worker_races.proofs.weaving.Thrift.{adds-none}
 -- Along each log of a race the places never fall; the frames of a woven part are protected.
 pub use Rattle.worker_races.proofs.weaving.Recount.{rising}
 pub use Rattle.worker_races.proofs.weaving.ProtectedPart.{woven-protected}
+-- Logs by their places, and what the next event of a part that is woven of them leaves of them.
+pub use Rattle.worker_races.proofs.weaving.LogsLeft.{Left, claims_for, next-nth, nth-left, nth-logs, nth-other, nth-same, told-front}
+pub use Rattle.worker_races.proofs.weaving.LogsLeft.{Next, leaves, next-is, takes}
 -- The part that a race gives is woven.
 pub use Rattle.worker_races.proofs.weaving.WovenRun.{race-woven}
 -- A race that is worked by hand: what control performs, and where the claims of two logs stand.

@@ -3,22 +3,14 @@
 -- A worker of alice claims a number; control lets her begin the second key; and the worker claims another, under that.
 -- One of bob is refused a number. And a part of that race in which the two claims of alice's log changed places, which is not
 -- woven so.
-use Rattle.std.proofs.Common.{◌≡◌, ◌⊎◌, inl, inr, ◌<◌, ◌≤◌, ◌+◌, ◌==◌, ◌&&◌, ℕ, zero, suc, Bool, true, false, cond, List, [], ◌∷◌, ◌++◌, length, map, Some, None, refl, sym, ap, ◌∙◌, subst, arith}
+use Rattle.std.proofs.Common.{◌≡◌, inl, inr, ◌<◌, ◌≤◌, ◌+◌, ◌==◌, ℕ, Bool, true, false, cond, List, [], ◌∷◌, ◌++◌, length, map, Some, None, refl, sym, ap, ◌∙◌, arith}
 use Rattle.std.proofs.lemmas.Bool.{cases_Bool, eqb-true}
-use Rattle.std.specs.Prelude.{if◌then◌else◌, max, not, replicate, slice_get, slice_index_or}
-use Rattle.std.proofs.lemmas.List.Elements.{All-nil, All-cons}
+use Rattle.std.specs.Prelude.{max, not}
 use Rattle.atomic_table.specs.Seated.{TableId}
 use Rattle.lan_base.specs.declared.association_number.AssociationNumber.{AssociationNumber}
-use Rattle.lan_base.specs.declared.association_number.AssociationNumber.TheVariants.{An0, An1, An2, An3}
+use Rattle.lan_base.specs.declared.association_number.AssociationNumber.TheVariants.{An0, An1}
 use Rattle.lan_base.specs.declared.frame.Protected.{Protected}
 use Rattle.lan_base.specs.declared.frame.UserFrame.{UserFrame}
-use Rattle.peer_lists.specs.Acceptance.{refusal, accepted, outcome}
-use Rattle.peer_lists.specs.Peers.{says, hopes, known}
-use Rattle.sak_exchange.specs.Held.{received, latest, old, transmitting}
-use Rattle.mka_station.specs.Lives.{peers_of, keys_of, elected}
-use Rattle.mka_station.specs.Views.{view as view_of}
-use Rattle.mka_station.specs.Tick.{tick_turn}
-use Rattle.mka_station.specs.Hearing.{hear_turn}
 use Rattle.association_slots.specs.Cards.{card_words}
 use Rattle.association_slots.specs.Learned.{Learned}
 use Rattle.association_slots.specs.Steps.{new_seat}
@@ -34,20 +26,18 @@ use Rattle.data_workers.specs.Logs.{IsProtectedBy, claim_of}
 use Rattle.data_workers.specs.Workers.{IsDone, WorkerAt}
 use Rattle.data_workers.specs.declared.entry.Entry.{Entry}
 use Rattle.data_workers.specs.declared.entry.Entry.TheVariants.{Taken, Refused}
-use Rattle.data_workers.specs.declared.sender.Sender.{Sender}
-use Rattle.lan_core.specs.declared.event.Event.{Event}
 use Rattle.lan_core.specs.declared.event.Event.TheVariants as events
 use Rattle.lan_core.specs.declared.fact.Fact.TheVariants as facts
 use Rattle.lan_core.specs.declared.fact.Lack.TheVariants as lacks
-use Rattle.lan_core.specs.Claims.{is_epoch, next, shown_by, user_at}
+use Rattle.lan_core.specs.Claims.{is_epoch, next, shown_by}
 use Rattle.lan_core.specs.Ledgers.{claims}
 use Rattle.lan_core.specs.Legal.{IsLegal, none_ahead}
-use Rattle.lan_core.specs.Lives.{Life, keys_in, life, transmitting_at}
-use Rattle.lan_core.specs.Run.{Happening, Profile, Run, happened, stations}
+use Rattle.lan_core.specs.Lives.{transmitting_at}
+use Rattle.lan_core.specs.Run.{Happening, Run, happened}
 use Rattle.lan_core.proofs.Public.{legal-more}
-use Rattle.group_safety.specs.Accounts.{Account, account_at, numbers_at, shows_at}
-use Rattle.group_safety.specs.Transmitting.{Carried, Carries, CarriesAt, CarriesIn, names, now, sends as sending}
-use Rattle.group_safety.proofs.Public.{settings, users, alice, bob, first_key, second_key, r11, r14, r16, r17, r18, r19, r20, r21, l20, l21, v16, v20, v21, both, a-user, most_next, next-most}
+use Rattle.group_safety.specs.Accounts.{account_at, numbers_at, shows_at}
+use Rattle.group_safety.specs.Transmitting.{Carried, CarriesAt, names, now, sends as sending}
+use Rattle.group_safety.proofs.Public.{settings, users, alice, bob, first_key, second_key, r11, r14, r16, r17, r18, r19, r20, r21, l20, l21, v16, v20, v21, most_next, next-most}
 use Rattle.worker_races.specs.merge.Merged.{entries_of, merged, numbered}
 use Rattle.worker_races.specs.merge.Places.{Move, ends, place}
 use Rattle.worker_races.specs.merge.Raced.{epoch_at, epoch_of}
@@ -58,22 +48,16 @@ use Rattle.worker_races.proofs.weaving.RaceExample.{newest}
 use Rattle.worker_races.proofs.weaving.WovenRun.{race-woven}
 use Rattle.station_words.specs.Counting.{greatest_seen, past_claims, times_in}
 use Rattle.station_words.specs.Telling.{CatchUp, KeepUp}
-use Rattle.station_words.specs.Ties.{AreTiedBy, HaveCaughtUp, HaveKeptUp, IsTiedBy}
+use Rattle.station_words.specs.Ties.{HaveCaughtUp, HaveKeptUp}
 use Rattle.station_words.proofs.Public.{looked-none}
 use Rattle.worker_races.specs.Beside.{Race, WereBeside, ans_in, attempts_in, moves_in, part_in, pointed_in}
-use Rattle.worker_races.specs.Going.{WasTold, words_by}
 use Rattle.worker_races.specs.Performed.{happenings}
-use Rattle.worker_races.specs.Senders.{IsNew, IsSender}
 use Rattle.worker_races.proofs.Races.{race-is}
-use Rattle.worker_races.proofs.WordsExample.{only}
+use Rattle.worker_races.proofs.Cases.{all-false, by-an, only}
+use Rattle.worker_races.proofs.TwoStations.{both-done, both-new, both-tied, both-told, carries-in, event_of, is-sender, next-some, open_histories, sender, worker}
 use Rattle.worker_races.proofs.RolloverWords.{first-learned, first-words, first_card, joined, moved, none_out, of_all, of_old, once-back, one_out, reads, second-learned, second-words, second_card, seen, sends_first, sends_second, under_first, under_second, waits, waits-learned, while-out, words}
 
 -- ---- what transmits
-
-unfoldable open_histories : ℕ
-unfolding refusal accepted outcome says hopes known received latest old transmitting peers_of
-    keys_of elected view_of hear_turn tick_turn
-open_histories = 0
 
 alice-was : transmitting_at settings 0 r16 ≡ Some first_key
 unfolding open_histories
@@ -101,10 +85,6 @@ carries_second = record { points = sending An1 2 ∷ sending An0 1 ∷ []; insta
 
 abbrev carries_none : Carried
 carries_none = record { points = []; installs = 2 }
-
-carries-in : (s : ℕ) (r : Run) (l : Life) (k : Carried) → life settings s r ≡ Some l
-    → Carries l.member.base (keys_in l) k → CarriesAt settings s r k
-carries-in s r l k living carries = subst (λ o. CarriesIn o k) (sym living) carries
 
 alice-carries : CarriesAt settings 0 r20 carries_first
 unfolding open_histories
@@ -137,11 +117,6 @@ event-most s e n x r here before = omega (arith, here, before)
 event-least : (s e n : ℕ) (x : Happening) (r : Run) → n ≤ next settings s e r → n ≤ next settings s e (x ∷ r)
 unfolding next
 event-least s e n x r before = omega (arith, before)
-
-next-some : (s e : ℕ) (r : Run) → 1 ≤ next settings s e r
-unfolding next
-next-some s e [] = omega arith
-next-some s e (x ∷ r) = let h = next-some s e r in omega (arith, h)
 
 cond-none : (b : Bool) → cond b 0 0 ≤ 1
 cond-none true = omega arith
@@ -221,13 +196,6 @@ bob-claimed = refl
 
 -- ---- the words keep up with them
 
-by-an : (P : AssociationNumber → Type 0) → P An0 → P An1 → P An2 → P An3
-    → (an : AssociationNumber) → P an
-by-an P a b c d An0 = a
-by-an P a b c d An1 = b
-by-an P a b c d An2 = c
-by-an P a b c d An3 = d
-
 later-none : (n e : ℕ) → 1 ≤ n → n < e → ◌≡◌ {A = ℕ} (cond (1 == e) 2 1) 1
 later-none n e some less = elim (cases_Bool (1 == e)) [
   | inl is ↦ (let same = eqb-true 1 e is in absurd (omega (arith, some, less, same)))
@@ -290,33 +258,7 @@ waits-up r out notes learned nexts none shown = record {
   seen = λ e. nexts e ∙ ap (λ (ns : List (ℕ × ℕ)). max 1 (max (past_claims e ns) 0)) (sym none);
 }
 
-all-false : (n i : ℕ) → slice_index_or (replicate n false) i false ≡ false
-all-false zero i = refl
-all-false (suc n) zero = refl
-all-false (suc n) (suc i) = all-false n i
-
--- the words of two stations say it, where each says it
-both-tied : (Says : Account → ControlView → Type 0) (r : Run) (j k : Carried) (c d : ControlAt)
-    → stations r ≡ both → CarriesAt settings 0 r j → Says (account_at settings 0 r j) c.view
-    → CarriesAt settings 1 r k → Says (account_at settings 1 r k) d.view
-    → AreTiedBy Says settings r (c ∷ d ∷ [])
-both-tied Says r j k c d there first says second tells = record {
-  many = sym (ap length there);
-  each = each;
-}
-  where
-    each : (s : ℕ) (x : ControlAt) → slice_get (c ∷ d ∷ []) s ≡ Some x → IsTiedBy Says settings s r x
-    each zero x at = let same : c ≡ x = cc at in subst (λ (v : ControlAt). IsTiedBy Says settings 0 r v) same (j, first, says)
-    each (suc zero) x at = let same : d ≡ x = cc at in subst (λ (v : ControlAt). IsTiedBy Says settings 1 r v) same (k, second, tells)
-    each (suc (suc s)) x at = absurd (cc at)
-
 -- ---- the logs
-
-abbrev user : UserFrame
-user = record { destination = record { 0 = replicate 6 1 }; body = 8 ∷ 0 ∷ 1 ∷ [] }
-
-abbrev sender : ℕ → Sender
-sender s = record { station = s; sci = if s == 0 then alice.sci else bob.sci; user = user }
 
 -- ciphers stay closed
 unfoldable pub octets : Card → AssociationNumber → ℕ → List ℕ
@@ -405,19 +347,13 @@ legal-after : IsLegal settings thrice r21
 legal-after = legal-more settings users (users ++ users) r21 (record { stepped = v21.stepped; excused = v21.excused none_ahead })
 
 module _ (a_table b_table : TableId) where
-  abbrev worker : ℕ → TableId → SeatView → ℕ → WorkerAt
-  worker s table seat jobs = record { sender = sender s; seat = record { table = table; view = seat }; jobs = jobs; log = [] }
-
-  abbrev done : ℕ → TableId → SeatView → List Entry → WorkerAt
-  done s table seat log = record { sender = sender s; seat = record { table = table; view = seat }; jobs = 0; log = log }
-
   abbrev begun : List WorkerAt
-  begun = worker 0 a_table alice_seat 2 ∷ worker 1 b_table bob_seat 1 ∷ []
+  begun = worker 0 a_table alice_seat 2 [] ∷ worker 1 b_table bob_seat 1 [] ∷ []
 
   abbrev ended : List WorkerAt
-  ended = done 0 a_table alice_did alices ∷ done 1 b_table bob_did bobs ∷ []
+  ended = worker 0 a_table alice_did 0 alices ∷ worker 1 b_table bob_did 0 bobs ∷ []
 
-  alice-done : IsDone (worker 0 a_table alice_seat 2) (done 0 a_table alice_did alices)
+  alice-done : IsDone (worker 0 a_table alice_seat 2 []) (worker 0 a_table alice_did 0 alices)
   alice-done = record {
     same = record { sender = refl; table = refl };
     none = refl;
@@ -434,7 +370,7 @@ module _ (a_table b_table : TableId) where
     };
   }
 
-  bob-done : IsDone (worker 1 b_table bob_seat 1) (done 1 b_table bob_did bobs)
+  bob-done : IsDone (worker 1 b_table bob_seat 1 []) (worker 1 b_table bob_did 0 bobs)
   bob-done = record {
     same = record { sender = refl; table = refl };
     none = refl;
@@ -448,35 +384,6 @@ module _ (a_table b_table : TableId) where
       entries = ((refl, (inl refl, omega arith)), tt);
       in_order = (tt, tt);
     };
-  }
-
-  done-each : (i : ℕ) (d : WorkerAt) → i < 2 → IsDone (slice_index_or begun i d) (slice_index_or ended i d)
-  done-each zero d less = alice-done
-  done-each (suc zero) d less = bob-done
-  done-each (suc (suc i)) d less = absurd (omega (arith, less))
-
-  is-new : (w : WorkerAt) → w.log ≡ [] → IsNew w
-  is-new w none = record {
-    empty = none;
-    logged = rw none (record {
-      number = refl;
-      start = refl;
-      loads = omega arith;
-      claims_are = refl;
-      notes_are = refl;
-      entries = tt;
-      in_order = tt;
-    });
-  }
-
-  is-sender : (s : ℕ) (profile : Profile) (there : slice_get both s ≡ Some profile) → profile.sci ≡ (sender s).sci
-      → user_at thrice (2 + s) ≡ Some user → IsSender thrice r20 (2 + s) (sender s)
-  is-sender s profile there sci named = record {
-    profile = profile;
-    placed = ap (λ ps. slice_get ps s) v20.there ∙ there;
-    sci = sci;
-    user = named;
-    sendable = a-user;
   }
 
   -- ---- the words
@@ -535,14 +442,6 @@ module _ (a_table b_table : TableId) where
       alice-now (second-up out told read a)
       bob-still (waits-up r21 b_out notes b bob-later bob-claimed refl)
 
-  told-each : (s : ℕ) (d : ControlAt) → slice_get gone s ≡ Some d → (c : ControlAt)
-      × (slice_get shared s ≡ Some c) × WasTold (words_by settings r20 0 (newest r21) s c.view) c.view d.view
-  told-each zero d at = let same : record { table = a_table; view = moved } ≡ d = cc at in
-      (_, refl, subst (λ (x : ControlAt). WasTold (present_at An1 2 ∷ []) (sends_first one_out) x.view) same (record { points = refl; seats = refl }))
-  told-each (suc zero) d at = let same : record { table = b_table; view = waits one_out [] } ≡ d = cc at in
-      (_, refl, subst (λ (x : ControlAt). WasTold [] (waits one_out []) x.view) same (record { points = refl; seats = refl }))
-  told-each (suc (suc s)) d at = absurd (cc at)
-
   -- ---- the race
 
   abbrev pub race : Race
@@ -574,11 +473,12 @@ module _ (a_table b_table : TableId) where
       record { control = _; there = refl; seat_is = refl; new_is = refl },
       (shared, record { control = _; there = refl; seat_is = refl; new_is = refl }, refl),
     );
-    senders = (is-sender 0 alice refl refl refl, (is-sender 1 bob refl refl refl, tt));
-    new = All-cons IsNew (worker 0 a_table alice_seat 2) (worker 1 b_table bob_seat 1 ∷ [])
-        (is-new (worker 0 a_table alice_seat 2) refl)
-        (All-cons IsNew (worker 1 b_table bob_seat 1) [] (is-new (worker 1 b_table bob_seat 1) refl) (All-nil IsNew));
-    done = record { count = refl; each = done-each };
+    senders = (
+      is-sender thrice r20 2 0 alice v20.there refl refl refl,
+      (is-sender thrice r20 3 1 bob v20.there refl refl refl, tt),
+    );
+    new = both-new _ _ refl refl;
+    done = both-done _ _ _ _ alice-done bob-done;
     performed = (
       record {
         step = legal-after.stepped.0;
@@ -589,7 +489,11 @@ module _ (a_table b_table : TableId) where
       },
       tt,
     );
-    gone = (gone, record { many = refl; each = told-each }, refl);
+    gone = (
+      gone,
+      both-told r20 0 (newest r21) _ _ _ _ (record { points = refl; seats = refl }) (record { points = refl; seats = refl }),
+      refl,
+    );
     keep_up = kept one_out one_out of_old [] [] alice-out (bob-learned one_out refl);
     looked = looked-none gone;
     joined = (
@@ -623,9 +527,6 @@ module _ (a_table b_table : TableId) where
   one-move : moves_in race ≡ begins 1 2 ∷ []
   one-move = ap (λ (n : ℕ). begins n (epoch_at settings 0 r21) ∷ []) (ap epoch_of alice-sends)
       ∙ ap (λ (n : ℕ). begins 1 n ∷ []) (ap epoch_of alice-goes-on)
-
-  abbrev event_of : Happening → Event
-  event_of h = h.event
 
   -- alice's claim under the first key, the beginning, her claim under the second key, and bob's refusal
   in-this-order : map event_of (part_of settings 1 (merged (begins 1 2 ∷ []) (entries_of (attempts_in race))) r20)

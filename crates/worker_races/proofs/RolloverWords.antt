@@ -5,7 +5,7 @@ use Rattle.std.proofs.Common.{◌≡◌, ◌⊎◌, inl, inr, ◌<◌, ◌≤◌
 use Rattle.std.proofs.lemmas.Bool.{cases_Bool, eqb-true}
 use Rattle.std.specs.Prelude.{slice_index, replicate}
 use Rattle.lan_base.specs.declared.association_number.AssociationNumber.{AssociationNumber}
-use Rattle.lan_base.specs.declared.association_number.AssociationNumber.TheVariants.{An0, An1, An2, An3}
+use Rattle.lan_base.specs.declared.association_number.AssociationNumber.TheVariants.{An0, An1}
 use Rattle.association_slots.specs.Cards.{Knows, card_at, card_in}
 use Rattle.association_slots.specs.Learned.{IsNext, IsTold, Learned, WasNext}
 use Rattle.association_slots.specs.Rule.{Settled, tagged}
@@ -16,7 +16,7 @@ use Rattle.association_slots.specs.declared.view.ControlView.{ControlView}
 use Rattle.association_slots.specs.declared.view.Current.{Current}
 use Rattle.association_slots.specs.declared.view.NextSeen.{NextSeen}
 use Rattle.association_slots.specs.declared.view.SlotView.{SlotView}
-use Rattle.worker_races.proofs.WordsExample.{only}
+use Rattle.worker_races.proofs.Cases.{by-an, one-most, only, three, two}
 
 -- ---- the views
 
@@ -113,22 +113,6 @@ none_out = replicate 8 false
 
 abbrev pub one_out : List Bool
 one_out = true ∷ replicate 7 false
-
--- ---- cases
-
-by-an : (P : AssociationNumber → Type 0) → P An0 → P An1 → P An2 → P An3
-    → (an : AssociationNumber) → P an
-by-an P a b c d An0 = a
-by-an P a b c d An1 = b
-by-an P a b c d An2 = c
-by-an P a b c d An3 = d
-
-pub two : {A : Type 0} (P : A → Type 0) (x y : A) → P x → P y → (z : A) → In z (x ∷ y ∷ []) → P z
-two P x y p q z i = elim i [ inl e ↦ subst P e p | inr j ↦ only P y q z j ]
-
-pub three : {A : Type 0} (P : A → Type 0) (x y z : A) → P x → P y → P z → (w : A)
-    → In w (x ∷ y ∷ z ∷ []) → P w
-three P x y z p q s w i = elim i [ inl e ↦ subst P e p | inr j ↦ two P y z q s w j ]
 
 -- ---- what control did
 
@@ -360,10 +344,6 @@ waits-learned out notes eight noted = record {
   noted = noted;
   cards = λ epoch card some knows. absurd knows.5;
 }
-
-one-most : (b : Bool) → one b + 0 ≤ 1
-one-most true = omega arith
-one-most false = omega arith
 
 first-told : (c : ControlView) (pn : ℕ) → 1 ≤ pn → pn ≤ 2 → c.first ≡ 1 → In (An0, 1) c.raises
     → In (present_at An0 1) c.points → IsTold c (under_first pn)

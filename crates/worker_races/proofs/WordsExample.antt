@@ -5,7 +5,7 @@ use Rattle.std.proofs.Common.{Bool, true, false, List, [], ◌∷◌, length, re
 use Rattle.std.proofs.lemmas.Bool.{cases_Bool, eqb-true}
 use Rattle.std.specs.Prelude.{slice_index, replicate}
 use Rattle.lan_base.specs.declared.association_number.AssociationNumber.{AssociationNumber}
-use Rattle.lan_base.specs.declared.association_number.AssociationNumber.TheVariants.{An0, An1, An2, An3}
+use Rattle.lan_base.specs.declared.association_number.AssociationNumber.TheVariants.{An0}
 use Rattle.association_slots.specs.Cards.{Knows, card_at, card_in}
 use Rattle.association_slots.specs.Learned.{IsNext, IsTold, Learned}
 use Rattle.association_slots.specs.Rule.{Settled, tagged}
@@ -16,6 +16,7 @@ use Rattle.association_slots.specs.declared.view.Addition.{Addition}
 use Rattle.association_slots.specs.declared.view.ControlView.{ControlView}
 use Rattle.association_slots.specs.declared.view.Current.{Current}
 use Rattle.association_slots.specs.declared.view.SlotView.{SlotView}
+use Rattle.worker_races.proofs.Cases.{by-an, one-most, only}
 
 -- ---- the views
 
@@ -65,18 +66,6 @@ none_out = replicate 8 false
 
 abbrev pub one_out : List Bool
 one_out = true ∷ replicate 7 false
-
--- ---- cases
-
-by-an : (P : AssociationNumber → Type 0) → P An0 → P An1 → P An2 → P An3
-    → (an : AssociationNumber) → P an
-by-an P a b c d An0 = a
-by-an P a b c d An1 = b
-by-an P a b c d An2 = c
-by-an P a b c d An3 = d
-
-pub only : {A : Type 0} (P : A → Type 0) (x : A) → P x → (y : A) → In y (x ∷ []) → P y
-only P x p y i = elim i [ inl e ↦ subst P e p | inr j ↦ absurd j ]
 
 -- ---- what control did
 
@@ -274,10 +263,6 @@ sends-learned out told notes read eight are noted were_read = record {
     }
 
 -- ---- none, one and two claims
-
-one-most : (b : Bool) → one b + 0 ≤ 1
-one-most true = omega arith
-one-most false = omega arith
 
 both-false : (a : Bool) (m n : ℕ) → (m ≡ n → ⊥) → (p : ℕ) → one (a && (m == p)) + (one (a && (n == p)) + 0) ≤ 1
 both-false false m n apart p = omega arith

@@ -25,6 +25,8 @@ pub mod MoveAt
 pub mod Performed
 pub mod FactsTell
 pub mod FramesTaken
+pub mod Installed
+pub mod LogsLeft
 pub mod ProtectedPart
 pub mod LogsFit
 pub mod NoStation

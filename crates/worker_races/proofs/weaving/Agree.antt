@@ -42,7 +42,8 @@ starts-none t (events.Claim station user pn) own = absurd (cc own)
 starts-none t events.Emit own = absurd (cc own)
 starts-none t (events.Inject station octets) own = refl
 
-after-other : (s e : ℕ) (shown : List Fact) → AreOther shown → after_claim s e shown ≡ 0
+-- facts that are no claims tell of no number
+pub after-other : (s e : ℕ) (shown : List Fact) → AreOther shown → after_claim s e shown ≡ 0
 after-other s e [] are = refl
 after-other s e (facts.Claimed t an epoch pn ∷ later) are = absurd are
 after-other s e (facts.Unclaimed t why ∷ later) are = refl

@@ -15,7 +15,7 @@ use Rattle.worker_races.specs.merge.Marks.{Mark, Control, Claim}
 use Rattle.worker_races.specs.merge.Merged.{Before, IsFit, AllPairs, InLog, numbered, merged, sooner, entries_of}
 use Rattle.worker_races.specs.merge.inside.Ordered.{AreInOrder, IsControl, next as next_in, settled as settled_in}
 use Rattle.worker_races.specs.merge.Raced.{AreMoves, before_of, IsAttempt, IsRaced, woven}
-use Rattle.worker_races.proofs.weaving.Stable.{each-in_order}
+use Rattle.worker_races.proofs.weaving.Stable.{each-append, each-in_order}
 use Rattle.worker_races.proofs.weaving.FromLegal.{next_keeps, grow_from, keeps_from, later_from}
 use Rattle.worker_races.proofs.weaving.Woven.{woven_control}
 use Rattle.worker_races.proofs.weaving.Legal as places
@@ -75,10 +75,6 @@ module _ (settings : Settings) (users : List UserFrame) (base : ℕ) (ans : ℕ 
       }
 
   -- ---- the claims of all logs
-
-  each-append : (P : Attempt → Type 0) (xs ys : List Attempt) → AllByRecursion P xs → AllByRecursion P ys → AllByRecursion P (xs ++ ys)
-  each-append P [] ys h k = k
-  each-append P (x ∷ xs) ys h k = (h.0, each-append P xs ys h.1 k)
 
   pub each-entry : (P : Attempt → Type 0) (logs : List (List Attempt)) → AllByRecursion (AllByRecursion P) logs → AllByRecursion P (entries_of logs)
   unfolding entries_of

@@ -12,7 +12,7 @@ use Rattle.worker_races.specs.merge.Places.{Standing, ends, place, standing_afte
 use Rattle.worker_races.specs.merge.inside.Moments.{stands, Replaced, IsAt, Grows, AllGrow}
 use Rattle.worker_races.specs.merge.Merged.{rank, sooner, numbered, merged, Before, IsFit, Differ, AllPairs, InLog}
 use Rattle.worker_races.specs.merge.inside.Ordered.{is_control, now, next, settled, replaced, InOrder, AreInOrder, IsControl}
-use Rattle.worker_races.proofs.weaving.Stable.{IsUp, IsUp-in_order, each-in_order, pairs-in_order, each_weaker, each-filter}
+use Rattle.worker_races.proofs.weaving.Stable.{IsUp, IsUp-in_order, each-append, each-in_order, pairs-in_order, each_weaker, each-filter}
 use Rattle.worker_races.proofs.weaving.PlaceLemmas.{stands-zero, taken_stands, taken_passed, taken_rises, refused_excused, Excused, before_place, tick_above, each_at, place-nil, place-here, place-next}
 use Rattle.worker_races.proofs.weaving.Woven.{log_in_order, woven_control, weak, le_then, rank_parts, rank_late}
 
@@ -345,10 +345,6 @@ module _ (R : Before) (sts : List Move) (ctl : IsControl R sts) where
   apart_claims [] h = tt
   apart_claims (x ∷ es) h = (apart_each x es h.0, apart_claims es h.1)
 
-  each_append : (P : Mark → Type 0) (xs ys : List Mark) → AllByRecursion P xs → AllByRecursion P ys → AllByRecursion P (xs ++ ys)
-  each_append P [] ys h k = k
-  each_append P (x ∷ xs) ys h k = (h.0, each_append P xs ys h.1 k)
-
   good_numbered : (n : ℕ) (ss : List Move) → ((j : ℕ) (st : Move) → IsAt ss j st → IsAt sts (j + n) st) → AllByRecursion IsGood (numbered n ss)
   unfolding numbered IsGood
   good_numbered n [] f = tt
@@ -380,7 +376,7 @@ module _ (R : Before) (sts : List Move) (ctl : IsControl R sts) where
     behind = tt;
     ahead = ahead_all _;
     good_past = tt;
-    good = each-in_order (sooner sts) IsGood _ (each_append IsGood _ _ (good_numbered 0 sts (λ j st a. subst (λ m. IsAt sts m st) (plus_zero j) a)) (good_claims es fit));
+    good = each-in_order (sooner sts) IsGood _ (each-append IsGood _ _ (good_numbered 0 sts (λ j st a. subst (λ m. IsAt sts m st) (plus_zero j) a)) (good_claims es fit));
     across = tt;
     inner = pairs_of _ (IsUp-in_order (sooner sts) (weak sts) _) (pairs-in_order (sooner sts) Apart turned _ (apart_numbered 0 sts _ (apart_claims es differ)));
     down = tt;

@@ -25,7 +25,7 @@ use Rattle.worker_races.specs.merge.Steps.{station_of, move_of, moves_of, attemp
 use Rattle.worker_races.specs.merge.Raced.{shown_of, IsMove, AreMoves, IsRaced, claim_after}
 use Rattle.worker_races.specs.merge.Weaving.{part_of, IsWoven}
 use Rattle.lan_core.specs.Parts.{followed_by}
-use Rattle.worker_races.proofs.weaving.Stable.{each-in_order}
+use Rattle.worker_races.proofs.weaving.Stable.{each-append, each-in_order}
 use Rattle.worker_races.proofs.weaving.Sweep.{in_order-map, events-ranked, place-log}
 use Rattle.worker_races.proofs.weaving.Controlled.{race-legal, race-rises}
 use Rattle.worker_races.proofs.weaving.Raced.{race-thrifty}
@@ -126,10 +126,6 @@ stand-claims : (base : ℕ) (steps : List Step) (es : List Attempt) → AllByRec
 unfolding StandsAt
 stand-claims base steps [] = tt
 stand-claims base steps (x ∷ es) = (tt, stand-claims base steps es)
-
-each-append : {X : Type 0} (P : X → Type 0) (xs ys : List X) → AllByRecursion P xs → AllByRecursion P ys → AllByRecursion P (xs ++ ys)
-each-append P [] ys h k = k
-each-append P (x ∷ xs) ys h k = (h.0, each-append P xs ys h.1 k)
 
 part-events : (settings : Settings) (base : ℕ) (steps : List Step) (zs : List Mark) (r : Run) → AllByRecursion (StandsAt base steps) zs
     → map (option_map (counted_from base)) (map (event_at steps) zs) ≡ map Some (map (λ h. h.event) (part_of settings base zs r))

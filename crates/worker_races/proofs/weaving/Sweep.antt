@@ -4,7 +4,7 @@ use Rattle.std.proofs.lemmas.List.{take_more, map-append}
 use Rattle.std.proofs.lemmas.List.Elements.{All-from_recursion}
 use Rattle.std.specs.List.{AllByRecursion}
 use Rattle.std.specs.Prelude.{All}
-use Rattle.worker_races.proofs.weaving.Stable.{each-in_order}
+use Rattle.worker_races.proofs.weaving.Stable.{each-append, each-in_order}
 use Rattle.std.proofs.lemmas.Bool.{cases_Bool}
 use Rattle.lan_core.specs.declared.event.Event.TheVariants as events
 use Rattle.worker_races.specs.declared.merge.step.Step.{Step}
@@ -161,10 +161,6 @@ events-ranked steps ms (Control n m ∷ zs) = ap (λ l. event_at steps (Control 
 events-ranked steps ms (Claim x ∷ zs) = ap (λ l. event_at steps (Claim x) ∷ l) (events-ranked steps ms zs)
 
 -- ---- each rank is one of a step, or of a claim
-
-each-append : {X : Type 0} (P : X → Type 0) (xs ys : List X) → AllByRecursion P xs → AllByRecursion P ys → AllByRecursion P (xs ++ ys)
-each-append P [] ys h k = k
-each-append P (x ∷ xs) ys h k = (h.0, each-append P xs ys h.1 k)
 
 claims-are : (steps : List Step) (ms : List Move) (k : ℕ) (told : List Entry) → k + 1 < 2 ^ 32 → AllByRecursion (IsRankOf steps) (claim_ranks ms k told)
 claims-are steps ms k [] few = tt

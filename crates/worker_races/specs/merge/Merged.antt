@@ -50,7 +50,8 @@ unfoldable pub entries_of : List (List Attempt) → List Attempt
 entries_of [] = []
 entries_of (log ∷ logs) = log ++ entries_of logs
 
-abbrev pub nth_log : ℕ → List (List Attempt) → List Attempt
+-- the log at a place, from 0, of attempts or of entries
+abbrev pub nth_log : {X : Type 0} → ℕ → List (List X) → List X
 nth_log u [] = []
 nth_log zero (log ∷ logs) = log
 nth_log (suc u) (log ∷ logs) = nth_log u logs
