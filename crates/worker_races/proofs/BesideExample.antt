@@ -29,7 +29,7 @@ use Rattle.lan_core.specs.Ledgers.{claims}
 use Rattle.lan_core.specs.Run.{Run}
 use Rattle.group_safety.specs.Accounts.{account_at, numbers_at, shows_at}
 use Rattle.group_safety.specs.Transmitting.{Carried, CarriesAt, names, now, sends as sending}
-use Rattle.group_safety.proofs.Public.{settings, alice, bob, first_key, r11, r12, l11, l12, v11, v12}
+use Rattle.group_safety.proofs.Public.{opens, settings, alice, bob, first_key, r11, r12, l11, l12, v11, v12}
 use Rattle.group_safety.proofs.Public.{most_next, next-most}
 use Rattle.worker_races.specs.merge.Merged.{entries_of, merged}
 use Rattle.worker_races.specs.merge.Marks.{Mark}
@@ -47,10 +47,9 @@ use Rattle.worker_races.specs.Beside.{Race, WereBeside, ans_in, attempts_in, mov
 use Rattle.worker_races.specs.Performed.{happenings}
 use Rattle.worker_races.proofs.Races.{race-is}
 use Rattle.worker_races.proofs.Cases.{all-false, by-an, only}
-use Rattle.worker_races.proofs.TwoStations.{both-done, both-new, both-tied, both-told, carries-in, event_of, is-sender, next-some, open_histories, sender, worker}
-use Rattle.worker_races.proofs.WordsExample.{claim, its-words, its_card, none-told, none_out, one-told}
-use Rattle.worker_races.proofs.WordsExample.{one_out, reads, sends, sends-learned, two-told, waits}
-use Rattle.worker_races.proofs.WordsExample.{waits-learned, words}
+use Rattle.worker_races.proofs.TwoStations.{both-done, both-new, both-tied, both-told, carries-in, event_of, is-sender, next-some, sender, worker}
+use Rattle.worker_races.proofs.FirstKey.{claim, none-told, none_out, one-told, one_out, two-told}
+use Rattle.worker_races.proofs.WordsExample.{its-words, its_card, reads, sends, sends-learned, waits, waits-learned, words}
 
 -- ---- the accounts of the stations
 
@@ -62,22 +61,22 @@ abbrev carries_one : Carried
 carries_one = record { points = sending An0 1 ∷ []; installs = 1 }
 
 alice-carries : CarriesAt settings 0 r11 carries_one
-unfolding open_histories
+unfolding opens
 alice-carries = carries-in 0 r11 (l11 0) carries_one (v11.living 0 (omega arith))
     (record { installs = refl; shows = refl; last = inr refl })
 
 bob-carries : CarriesAt settings 1 r11 carries_none
-unfolding open_histories
+unfolding opens
 bob-carries = carries-in 1 r11 (l11 1) carries_none (v11.living 1 (omega arith))
     (record { installs = refl; shows = refl; last = inl (omega arith) })
 
 alice-still : CarriesAt settings 0 r12 carries_one
-unfolding open_histories
+unfolding opens
 alice-still = carries-in 0 r12 (l12 0) carries_one (v12.living 0 (omega arith))
     (record { installs = refl; shows = refl; last = inr refl })
 
 bob-now : CarriesAt settings 1 r12 carries_one
-unfolding open_histories
+unfolding opens
 bob-now = carries-in 1 r12 (l12 1) carries_one (v12.living 1 (omega arith))
     (record { installs = refl; shows = refl; last = inr refl })
 

@@ -146,7 +146,7 @@ module _ (settings : Settings) (users : List UserFrame) (s : ℕ) (x : Happening
         let h = holds shown.id shown.an k.epoch shown.sak (in-contains x.facts _ shown.fact) in
         let living = some-life k (life settings s (x ∷ r)) now in
         let l = living.0 in
-        let same : h.0.key ≡ k = new-held settings users s x r k l shown.an h.0
+        let same : h.0.key ≡ k = new-held settings s x r k l shown.an h.0
         (kept-run settings users (x ∷ r) (step, stepped) s l living.1) living.1
         (subst (HasInLife k) living.1 now) h.1 h.2 in
         let count = carries-count settings users s r new_key.lives.0 a stepped new_key.lives.1 before in

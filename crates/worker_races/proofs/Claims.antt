@@ -82,12 +82,12 @@ made s shown = numbers_at s (gather claim_of shown [])
 past-fact : (s e : ℕ) (fact : Fact) (cs : List Claim) → TellsClaim fact
     → past_claims e (numbers_at s (gather claim_of (fact ∷ []) cs))
     ≡ max (after_claim s e (fact ∷ [])) (past_claims e (numbers_at s cs))
-past-fact s e (facts.Claimed t an epoch pn) cs tells = go (t == s) (epoch == e)
+past-fact s e (facts.Claimed t an epoch pn) cs tells = go (t == s)
   where
-    go : (a b : Bool) → past_claims e (cond a ((epoch, pn) ∷ numbers_at s cs) (numbers_at s cs))
+    go : (a : Bool) → past_claims e (cond a ((epoch, pn) ∷ numbers_at s cs) (numbers_at s cs))
         ≡ max (cond (a && (epoch == e)) (pn + 1) 0) (past_claims e (numbers_at s cs))
-    go true b = refl
-    go false b = omega arith
+    go true = refl
+    go false = omega arith
 past-fact s e (facts.Unclaimed t why) cs tells = omega arith
 past-fact s e fact cs tells = absurd tells
 

@@ -31,7 +31,7 @@ use Rattle.lan_core.specs.Legal.{IsStep, IsStepped}
 use Rattle.lan_core.specs.Lives.{Life, sak_in, transmitting_at, turn_at_tick}
 use Rattle.lan_core.specs.Order.{is_event_of}
 use Rattle.lan_core.specs.Run.{Run, Happening}
-use Rattle.group_safety.specs.Accounts.{Account, account_at, onward}
+use Rattle.group_safety.specs.Accounts.{account_at, onward}
 use Rattle.group_safety.specs.Transmitting.{Carried, CarriesAt, Sending, follow, newest}
 use Rattle.group_safety.proofs.Public.{Kind, kind}
 use Rattle.group_safety.proofs.Public as kinds
@@ -39,6 +39,7 @@ use Rattle.sak_exchange.proofs.Public.{by_test}
 use Rattle.worker_races.specs.declared.merge.step.Step.{Step}
 use Rattle.worker_races.specs.merge.Table.{Controls, an_in, an_of, current_of, flipped, words_of}
 use Rattle.station_words.specs.Telling.{word_of}
+use Rattle.station_words.proofs.Public.{onward-carried}
 use Rattle.station_words.specs.Ties.{AreHeld, Followed, HaveLooked, KeepAhead}
 use Rattle.worker_races.specs.Going.{HaveGone, WereTold, words_by}
 use Rattle.worker_races.specs.Performed.{ArePerformed, IsPerformed, run_after}
@@ -106,41 +107,32 @@ none-reached settings s t r number octets l apart top o =
     (λ sec. rw sec (none-reaction s t number 0 (frame_turn l.member octets l.past).reaction apart top o))
 
 -- the station of an event is the one that its kind names
-same-of : (t u : ℕ) (e f : Event) → is_event_of t e ≡ true → e ≡ f → is_event_of t f ≡ true
-same-of t u e f own same = ap (is_event_of t) (sym same) ∙ own
+same-of : (t : ℕ) (e f : Event) → is_event_of t e ≡ true → e ≡ f → is_event_of t f ≡ true
+same-of t e f own same = ap (is_event_of t) (sym same) ∙ own
 
 none-else : (settings : Settings) (users : List UserFrame) (s t : ℕ) (r : Run) (e : Event) (shown : List Fact)
     → Kind settings users r e shown → is_event_of t e ≡ true → (t == s) ≡ false → SayNone s shown
 none-else settings users s t r e shown (kinds.starts name sci priority mi ev q) own apart =
-    absurd (let no = same-of t t e (events.Start name sci priority) own ev in cc no)
+    absurd (let no = same-of t e (events.Start name sci priority) own ev in cc no)
 none-else settings users s t r e shown (kinds.ticks u n l ev living q) own apart =
-    let at : u ≡ t = eqb-true u t (same-of t u e (events.Tick u n) own ev) in
+    let at : u ≡ t = eqb-true u t (same-of t e (events.Tick u n) own ev) in
     subst (SayNone s) (sym q) (none-reaction s u 0 (next_frame r) (turn_at_tick settings u r l n (sak_in shown)).reaction
     (subst (λ v. (v == s) ≡ false) (sym at) apart))
 none-else settings users s t r e shown (kinds.reached u number octets l (kinds.delivered g there same ev) living q) own apart =
-    let at : u ≡ t = eqb-true u t (same-of t u e (events.Deliver number u) own ev) in
+    let at : u ≡ t = eqb-true u t (same-of t e (events.Deliver number u) own ev) in
     subst (SayNone s) (sym q) (none-reached settings s u r number octets l (subst (λ v. (v == s) ≡ false) (sym at) apart))
 none-else settings users s t r e shown (kinds.reached u number octets l (kinds.injected zero_is ev) living q) own apart =
-    let at : u ≡ t = eqb-true u t (same-of t u e (events.Inject u octets) own ev) in
+    let at : u ≡ t = eqb-true u t (same-of t e (events.Inject u octets) own ev) in
     subst (SayNone s) (sym q) (none-reached settings s u r number octets l (subst (λ v. (v == s) ≡ false) (sym at) apart))
 none-else settings users s t r e shown (kinds.restarts u mi l ev drawn living q) own apart =
-    let at : u ≡ t = eqb-true u t (same-of t u e (events.Restart u) own ev) in
+    let at : u ≡ t = eqb-true u t (same-of t e (events.Restart u) own ev) in
     subst (SayNone s) (sym q) (none-reaction s u 0 0 (ending l.member l.past) (subst (λ v. (v == s) ≡ false) (sym at) apart))
 none-else settings users s t r e shown (kinds.claims u user pn ev q) own apart =
-    absurd (let no = same-of t t e (events.Claim u user pn) own ev in cc no)
+    absurd (let no = same-of t e (events.Claim u user pn) own ev in cc no)
 none-else settings users s t r e shown (kinds.emits w ev waits is) own apart =
-    absurd (let no = same-of t t e events.Emit own ev in cc no)
+    absurd (let no = same-of t e events.Emit own ev in cc no)
 
 -- ---- what an event tells the words
-
-onward-carried : (s t : ℕ) (e : Event) (a : Account) → is_event_of t e ≡ true → (onward s e a).carried ≡ a.carried
-onward-carried s t (events.Start name sci priority) a own = refl
-onward-carried s t (events.Tick u n) a own = by_test (u == s) (λ y. rw y refl) (λ y. rw y refl)
-onward-carried s t (events.Deliver frame u) a own = refl
-onward-carried s t (events.Restart u) a own = refl
-onward-carried s t (events.Claim u user pn) a own = absurd (cc own)
-onward-carried s t events.Emit a own = refl
-onward-carried s t (events.Inject u octets) a own = refl
 
 module _ (settings : Settings) (users : List UserFrame) (r : Run) (t : ℕ) (x : Happening) (stepped : IsStepped settings users r)
     (step : IsStep settings users x r) (own : is_event_of t x.event ≡ true)
@@ -187,9 +179,9 @@ module _ (settings : Settings) (users : List UserFrame) (r : Run) (t : ℕ) (x :
             let tie = ahead.each s mid.0 mid.1 in
             let j = moves s tie.0 tie.1 in
             let before : mid.0.view.points ≡ map word_of tie.0.points =
-            tie.2.points ∙ ap (λ (k : Carried). map word_of k.points) (onward-carried s t x.event (account_at settings s r tie.0) own) in
+            tie.2.points ∙ ap (λ (k : Carried). map word_of k.points) (onward-carried s x.event (account_at settings s r tie.0)) in
             let follows : follow s x.facts (onward s x.event (account_at settings s r tie.0)).carried ≡ Some j.0 =
-            ap (follow s x.facts) (onward-carried s t x.event (account_at settings s r tie.0) own) ∙ j.1 in
+            ap (follow s x.facts) (onward-carried s x.event (account_at settings s r tie.0)) ∙ j.1 in
             let up = mid.2.keeps_up (onward s x.event (account_at settings s r tie.0)) j.0 tie.2 follows in
             let same : mid.0.view.points ≡ look.0.view.points = look.2 in (
               look.0,

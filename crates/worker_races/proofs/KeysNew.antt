@@ -230,10 +230,10 @@ new-shown settings s x r k counted new =
     (shown-new s x.facts (installed r) new.count counted)
 
 -- and held under the association number that they show
-pub new-held : (settings : Settings) (users : List UserFrame) (s : ℕ) (x : Happening) (r : Run) (k : Key) (l : Life)
+pub new-held : (settings : Settings) (s : ℕ) (x : Happening) (r : Run) (k : Key) (l : Life)
     (an : AssociationNumber) (g : HeldKey) → KeepsRules l.member.base (keys_in l)
     → life settings s (x ∷ r) ≡ Some l → Has k (installs (keys_in l))
     → held_at settings s (x ∷ r) an ≡ Some g → g.key.epoch ≡ k.epoch → g.key ≡ k
-new-held settings users s x r k l an g kept living has is same =
+new-held settings s x r k l an g kept living has is same =
     one-epoch l.member.base (keys_in l) g.key k kept
     (held-has (keys_in l) an g (sym (ap (option_and_then (λ (m : Life). held_under (keys_in m) an)) living) ∙ is)) has same

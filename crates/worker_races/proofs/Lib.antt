@@ -17,6 +17,7 @@ pub mod Carded
 pub mod CardsBehind
 mod Examples
 mod Cases
+mod FirstKey
 mod WordsExample
 mod TwoStations
 pub mod BesideExample

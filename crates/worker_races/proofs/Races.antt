@@ -457,7 +457,7 @@ module _ (race : Race) (is : WereBeside race) where
           (subst (BeganAfter settings (ans s) s (pointed_in race s) r (old s).points) (sym (same-start number d hand)) (began-after s there))
           (same-points ∙ ((between-at s there).points ∙ ap (λ ws. ws ++ (old s).points)
           (sym (all-told settings race.users ans s (pointed_in race) r race.performed stepped given-for-all))))
-          (subst (AreAns (ans s)) (sym same-points) (are-ans-at s there)) (goes s) d.log (none number d hand) hand.log.entries known
+          (subst (AreAns (ans s)) (sym same-points) (are-ans-at s there)) d.log (none number d hand) hand.log.entries known
 
       log-in-log : AllPairs InLog (map (attempt_of u) d.log)
       log-in-log = log-in-order u d.seat.view d.sender d.log (none number d hand) hand.log.entries hand.log.in_order

@@ -37,7 +37,7 @@ use Rattle.lan_core.specs.Run.{Happening, Run, happened}
 use Rattle.lan_core.proofs.Public.{legal-more}
 use Rattle.group_safety.specs.Accounts.{account_at, numbers_at, shows_at}
 use Rattle.group_safety.specs.Transmitting.{Carried, CarriesAt, names, now, sends as sending}
-use Rattle.group_safety.proofs.Public.{settings, users, alice, bob, first_key, second_key, r11, r14, r16, r17, r18, r19, r20, r21, l20, l21, v16, v20, v21, most_next, next-most}
+use Rattle.group_safety.proofs.Public.{opens, settings, users, alice, bob, first_key, second_key, r11, r14, r16, r17, r18, r19, r20, r21, l20, l21, v16, v20, v21, most_next, next-most}
 use Rattle.worker_races.specs.merge.Merged.{entries_of, merged, numbered}
 use Rattle.worker_races.specs.merge.Places.{Move, ends, place}
 use Rattle.worker_races.specs.merge.Raced.{epoch_at, epoch_of}
@@ -54,25 +54,26 @@ use Rattle.worker_races.specs.Beside.{Race, WereBeside, ans_in, attempts_in, mov
 use Rattle.worker_races.specs.Performed.{happenings}
 use Rattle.worker_races.proofs.Races.{race-is}
 use Rattle.worker_races.proofs.Cases.{all-false, by-an, only}
-use Rattle.worker_races.proofs.TwoStations.{both-done, both-new, both-tied, both-told, carries-in, event_of, is-sender, next-some, open_histories, sender, worker}
-use Rattle.worker_races.proofs.RolloverWords.{first-learned, first-words, first_card, joined, moved, none_out, of_all, of_old, once-back, one_out, reads, second-learned, second-words, second_card, seen, sends_first, sends_second, under_first, under_second, waits, waits-learned, while-out, words}
+use Rattle.worker_races.proofs.TwoStations.{both-done, both-new, both-tied, both-told, carries-in, event_of, is-sender, next-some, sender, worker}
+use Rattle.worker_races.proofs.FirstKey.{claim, none_out, one_out}
+use Rattle.worker_races.proofs.RolloverWords.{first-learned, first-words, first_card, joined, moved, of_all, of_old, once-back, reads, second-learned, second-words, second_card, seen, sends_first, sends_second, under_second, waits, waits-learned, while-out, words}
 
 -- ---- what transmits
 
 alice-was : transmitting_at settings 0 r16 ≡ Some first_key
-unfolding open_histories
+unfolding opens
 alice-was = in-life settings 0 r16 _ (v16.living 0 (omega arith))
 
 alice-sends : transmitting_at settings 0 r20 ≡ Some first_key
-unfolding open_histories
+unfolding opens
 alice-sends = in-life settings 0 r20 (l20 0) (v20.living 0 (omega arith))
 
 bob-waits : transmitting_at settings 1 r20 ≡ None
-unfolding open_histories
+unfolding opens
 bob-waits = in-life settings 1 r20 (l20 1) (v20.living 1 (omega arith))
 
 alice-goes-on : transmitting_at settings 0 r21 ≡ Some second_key
-unfolding open_histories
+unfolding opens
 alice-goes-on = in-life settings 0 r21 (l21 0) (v21.living 0 (omega arith))
 
 -- ---- the accounts of the stations
@@ -87,22 +88,22 @@ abbrev carries_none : Carried
 carries_none = record { points = []; installs = 2 }
 
 alice-carries : CarriesAt settings 0 r20 carries_first
-unfolding open_histories
+unfolding opens
 alice-carries = carries-in 0 r20 (l20 0) carries_first (v20.living 0 (omega arith))
     (record { installs = refl; shows = refl; last = inr refl })
 
 bob-carries : CarriesAt settings 1 r20 carries_none
-unfolding open_histories
+unfolding opens
 bob-carries = carries-in 1 r20 (l20 1) carries_none (v20.living 1 (omega arith))
     (record { installs = refl; shows = refl; last = inl (omega arith) })
 
 alice-now : CarriesAt settings 0 r21 carries_second
-unfolding open_histories
+unfolding opens
 alice-now = carries-in 0 r21 (l21 0) carries_second (v21.living 0 (omega arith))
     (record { installs = refl; shows = refl; last = inr refl })
 
 bob-still : CarriesAt settings 1 r21 carries_none
-unfolding open_histories
+unfolding opens
 bob-still = carries-in 1 r21 (l21 1) carries_none (v21.living 1 (omega arith))
     (record { installs = refl; shows = refl; last = inl (omega arith) })
 
@@ -300,7 +301,7 @@ alice_did = record alice_seat {
   loads = 2;
   shown = present_at An1 2;
   added = true;
-  additions = under_second 1 ∷ under_first 2 ∷ [];
+  additions = under_second 1 ∷ claim 2 ∷ [];
   loaded = present_at An1 2 ∷ present_at An0 1 ∷ [];
   reads = reads;
 }

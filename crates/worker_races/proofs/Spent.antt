@@ -115,12 +115,12 @@ told-few e (a ∷ xs) ys few = elim (cases_Bool (took e a)) [
 
 pub numbers-few : (s e : ℕ) (cs : List Claim) → times_under e (numbers_at s cs) ≤ length cs
 numbers-few s e [] = omega arith
-numbers-few s e (c ∷ cs) = go (c.station == s) (c.epoch == e) (numbers-few s e cs)
+numbers-few s e (c ∷ cs) = go (c.station == s) (numbers-few s e cs)
   where
-    go : (b d : Bool) → times_under e (numbers_at s cs) ≤ length cs
+    go : (b : Bool) → times_under e (numbers_at s cs) ≤ length cs
         → times_under e (cond b ((c.epoch, c.pn) ∷ numbers_at s cs) (numbers_at s cs)) ≤ suc (length cs)
-    go false d less = omega (arith, less)
-    go true d less = elim (cases_Bool (c.epoch == e)) [
+    go false less = omega (arith, less)
+    go true less = elim (cases_Bool (c.epoch == e)) [
       | inl same ↦ rw same (omega (arith, less))
       | inr other ↦ rw other (omega (arith, less))
     ]

@@ -4,13 +4,6 @@ use Rattle.std.specs.Prelude.{All, if◌then◌else◌, replicate, slice_get, sl
 use Rattle.std.proofs.lemmas.List.Elements.{All-nil, All-cons}
 use Rattle.atomic_table.specs.Seated.{TableId}
 use Rattle.lan_base.specs.declared.frame.UserFrame.{UserFrame}
-use Rattle.peer_lists.specs.Acceptance.{refusal, accepted, outcome}
-use Rattle.peer_lists.specs.Peers.{says, hopes, known}
-use Rattle.sak_exchange.specs.Held.{received, latest, old, transmitting}
-use Rattle.mka_station.specs.Lives.{peers_of, keys_of, elected}
-use Rattle.mka_station.specs.Views.{view as view_of}
-use Rattle.mka_station.specs.Tick.{tick_turn}
-use Rattle.mka_station.specs.Hearing.{hear_turn}
 use Rattle.association_slots.specs.Views.{ControlAt}
 use Rattle.association_slots.specs.declared.view.ControlView.{ControlView}
 use Rattle.association_slots.specs.declared.view.SeatView.{SeatView}
@@ -27,12 +20,6 @@ use Rattle.group_safety.proofs.Public.{settings, alice, bob, both, a-user}
 use Rattle.station_words.specs.Ties.{AreTiedBy, IsTiedBy}
 use Rattle.worker_races.specs.Going.{WasTold, WereTold, words_by}
 use Rattle.worker_races.specs.Senders.{IsNew, IsSender}
-
--- what a station carries is computed by these
-unfoldable pub open_histories : ℕ
-unfolding refusal accepted outcome says hopes known received latest old transmitting peers_of
-    keys_of elected view_of hear_turn tick_turn
-open_histories = 0
 
 pub carries-in : (s : ℕ) (r : Run) (l : Life) (k : Carried) → life settings s r ≡ Some l
     → Carries l.member.base (keys_in l) k → CarriesAt settings s r k

@@ -50,10 +50,10 @@ after-other s e (facts.Unclaimed t why ∷ later) are = refl
 after-other s e (fact ∷ later) are = refl
 
 -- what a tick shows under an epoch
-tick-shows : (t e n : ℕ) (b : Bool) (o : Option Key) → (o ≡ None → n ≡ 0)
+tick-shows : (e n : ℕ) (b : Bool) (o : Option Key) → (o ≡ None → n ≡ 0)
     → cond (b && is_epoch e o) n 0 ≡ cond (b && eqb (epoch_of o) e) n 0
-tick-shows t e n b (Some k) none = refl
-tick-shows t e n b None none = go b (eqb 0 e)
+tick-shows e n b (Some k) none = refl
+tick-shows e n b None none = go b (eqb 0 e)
   where
     go : (a b : Bool) → cond (a && false) n 0 ≡ cond (a && b) n 0
     go false b = refl
@@ -65,7 +65,7 @@ tick-at : (t s e n : ℕ) (f : ℕ → Option Key) → (f t ≡ None → n ≡ 0
 tick-at t s e n f none = elim (cases_Bool (eqb t s)) [
   | inl same ↦ subst (λ v. cond (eqb t v && is_epoch e (f v)) n 0
       ≡ cond (eqb t v && eqb (epoch_of (f t)) e) n 0) (eqb-true t s same)
-      (tick-shows t e n (eqb t t) (f t) none)
+      (tick-shows e n (eqb t t) (f t) none)
   | inr other ↦ rw other refl
 ]
 

@@ -155,12 +155,12 @@ goes settings users s p c x stepped step own there past = elim (part settings us
       (tick-is_turn m.member (seen_at settings s c m next) (sak_in x.facts) m.past) (kept-run settings users c stepped s m living) past
   | parts.hears number octets m a came living sec right same ↦ turns settings s p c x m _ living same refl
       (hear-is_turn m.member a m.past) (kept-run settings users c stepped s m living) past
-  | parts.born l none birth same fact ↦ ends (in-life settings s (x ∷ c) l same ∙ none-in l none) (again l same birth)
+  | parts.born l none birth same fact ↦ ends (in-life settings s (x ∷ c) l same ∙ none-in l none) (again birth)
 ]
   where
-    again : (l : Life) → life settings s (x ∷ c) ≡ Some l → parts.IsBirth s c x.event → IsPast settings s (x ∷ c) p
-    again l same (parts.first name sci priority ev at) n is = absurd (let no = rw ev at own in cc no)
-    again l same (parts.again ev) n is =
+    again : parts.IsBirth s c x.event → IsPast settings s (x ∷ c) p
+    again (parts.first name sci priority ev at) n is = absurd (let no = rw ev at own in cc no)
+    again (parts.again ev) n is =
         let base = restart-base settings s c x n ev is in
         inl (before (life settings s c) refl base)
       where

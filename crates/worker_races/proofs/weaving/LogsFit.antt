@@ -20,9 +20,9 @@ use Rattle.lan_core.specs.declared.settings.Settings.{Settings}
 use Rattle.lan_core.specs.Run.{Run}
 use Rattle.lan_core.specs.Claims.{next, user_at}
 use Rattle.lan_core.specs.Order.{Exists, IsSendable}
-use Rattle.worker_races.specs.merge.Places.{Move, Attempt, Follows, Lives, Noted}
+use Rattle.worker_races.specs.merge.Places.{Move, Attempt, Lives, Noted}
 use Rattle.worker_races.specs.merge.Merged.{AllPairs, Differ, InLog, IsFit, entries_of}
-use Rattle.worker_races.specs.merge.Raced.{IsAttempt, before_of, epoch_at, standing_at}
+use Rattle.worker_races.specs.merge.Raced.{IsAttempt, before_of, standing_at}
 use Rattle.worker_races.specs.merge.Steps.{attempt_of, logs_of}
 use Rattle.worker_races.specs.merge.Words.{told_in}
 use Rattle.worker_races.specs.merge.Worked.{AreAns, BeganAfter, NoneExhausted, times_in, times_in_all}
@@ -142,14 +142,7 @@ module _ (users : List UserFrame) (base : ℕ) (ans : ℕ → ℕ → Associatio
 
 module _ (settings : Settings) (ans : ℕ → AssociationNumber) (pointed : ℕ → ℕ) (r : Run) (ms : List Move) (old : List Current) (u : ℕ)
     (w : SeatView) (sender : Sender) (c : ControlView) (begins : BeganAfter settings ans sender.station (pointed sender.station) r old w.start)
-    (words : c.points ≡ told_in ans sender.station (pointed sender.station) ms ++ old) (are : AreAns ans c.points)
-    (goes : Follows sender.station (standing_at settings sender.station (pointed sender.station) r) ms) where
-  low : epoch_at settings sender.station r ≤ pointed sender.station
-  low = elim (cases_lt 0 (epoch_at settings sender.station r)) [
-    | inl some ↦ (let same = begins.sends some in omega (arith, same))
-    | inr none ↦ omega (arith, none)
-  ]
-
+    (words : c.points ≡ told_in ans sender.station (pointed sender.station) ms ++ old) (are : AreAns ans c.points) where
   taken-fits : (p : Protected) → p.station ≡ sender.station → IsProtectedBy w sender p → IsToldFrame c sender p → IsFit (before_of settings pointed r) ms (attempt_of u (Taken p))
   taken-fits p station is told = record {
     lives = λ taken. (
@@ -178,7 +171,7 @@ module _ (settings : Settings) (ans : ℕ → AssociationNumber) (pointed : ℕ 
     above = λ taken. absurd (cc taken);
     noted = λ refused. subst (λ s. (pointed s ≤ after) × Noted s (standing_at settings s (pointed s) r) after ms) (sym station) (
       subst (λ n. n ≤ after) begins.last high,
-      noted ans sender.station after ms (standing_at settings sender.station (pointed sender.station) r) old low goes
+      noted ans sender.station after ms (standing_at settings sender.station (pointed sender.station) r) old
           (begins.absent_low after) (subst (λ n. n ≤ after) begins.last high) (subst (λ ps. WasAbsent ps after) words absent),
     );
   }

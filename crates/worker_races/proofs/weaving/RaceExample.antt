@@ -10,13 +10,6 @@ use Rattle.lan_base.specs.declared.association_number.AssociationNumber.TheVaria
 use Rattle.lan_base.specs.declared.frame.UserFrame.{UserFrame}
 use Rattle.sak_exchange.specs.declared.held_key.Key.{Key}
 use Rattle.sak_exchange.specs.Histories.{has_begun}
-use Rattle.sak_exchange.specs.Held.{received, latest, old, transmitting}
-use Rattle.peer_lists.specs.Acceptance.{refusal, accepted, outcome}
-use Rattle.peer_lists.specs.Peers.{says, hopes, known}
-use Rattle.mka_station.specs.Lives.{peers_of, keys_of, elected}
-use Rattle.mka_station.specs.Views.{view}
-use Rattle.mka_station.specs.Tick.{tick_turn}
-use Rattle.mka_station.specs.Hearing.{hear_turn}
 use Rattle.packet_claims.specs.declared.answers.NoClaim.TheVariants.{NoKey}
 use Rattle.data_workers.specs.declared.entry.Entry.{Entry}
 use Rattle.data_workers.specs.declared.entry.Entry.TheVariants.{Taken, Refused}
@@ -29,7 +22,7 @@ use Rattle.lan_core.specs.Expected.{lack, number_fact}
 use Rattle.lan_core.specs.Order.{Exists, IsSendable}
 use Rattle.lan_core.specs.Legal.{IsLegal, IsStepped, IsThrifty, is_unused, none_ahead, unused}
 use Rattle.lan_core.proofs.Public.{legal-more}
-use Rattle.group_safety.proofs.Public.{transmitting-last}
+use Rattle.group_safety.proofs.Public.{opens, transmitting-last}
 use Rattle.group_safety.proofs.Public.{settings, users, first_key, r11, r12, l11, l12, both, a-user}
 use Rattle.group_safety.proofs.Public.{most_next, next-most, v11, v12}
 use Rattle.worker_races.specs.merge.Places.{Move, Attempt, Lives}
@@ -78,25 +71,20 @@ logs = (frame 0 1 ∷ frame 0 2 ∷ []) ∷ (Refused 1 (NoKey 0) ∷ frame 1 1 �
 
 -- ---- what transmits
 
-unfoldable open_histories : ℕ
-unfolding refusal accepted outcome says hopes known received latest old transmitting peers_of
-    keys_of elected view hear_turn tick_turn
-open_histories = 0
-
 alice-sends : transmitting_at settings 0 r11 ≡ Some first_key
-unfolding open_histories
+unfolding opens
 alice-sends = in-life settings 0 r11 (l11 0) (v11.living 0 (omega arith))
 
 pub bob-waits : transmitting_at settings 1 r11 ≡ None
-unfolding open_histories
+unfolding opens
 bob-waits = in-life settings 1 r11 (l11 1) (v11.living 1 (omega arith))
 
 alice-goes-on : transmitting_at settings 0 r12 ≡ Some first_key
-unfolding open_histories
+unfolding opens
 alice-goes-on = in-life settings 0 r12 (l12 0) (v12.living 0 (omega arith))
 
 pub bob-sends : transmitting_at settings 1 r12 ≡ Some first_key
-unfolding open_histories
+unfolding opens
 bob-sends = in-life settings 1 r12 (l12 1) (v12.living 1 (omega arith))
 
 nobody-else : (n : ℕ) (r : Run) → IsStepped settings users r → stations r ≡ both

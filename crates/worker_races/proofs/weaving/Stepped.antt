@@ -232,7 +232,7 @@ module _ (settings : Settings) (users : List UserFrame) (base : ℕ) (ans : ℕ 
   in-order-control pointed past zs c n m a move = (
     move.before ∙ sym (a.stands m.station (there-out m.station c a.places (move-there c m move))),
     λ some same. keeps (ticks-at c m move some) same,
-    λ some other. moves (ticks-at c m move some) other,
+    λ some other. moves (ticks-at c m move some),
   )
     where
       under : (t : Ticks c m) → t.key.epoch ≡ m.before
@@ -247,8 +247,8 @@ module _ (settings : Settings) (users : List UserFrame) (base : ℕ) (ans : ℕ 
       fallen : (t : Ticks c m) → next settings m.station t.key.epoch (settled m.station c) ≤ m.shown
       fallen t = elim t.above [ inl l ↦ (let f = settled-low settings m.station t.key.epoch c in omega (arith, f, l)) | inr o ↦ o.1 ]
 
-      moves : Ticks c m → (m.after ≡ m.before → ⊥) → settled_in m.station m.before (next settings m.station m.before r) (next settings m.station m.before (settled m.station r)) past ≤ m.shown
-      moves t other = subst (λ w. w ≤ m.shown) (sym (a.settles m.station m.before)) (subst (λ e. next settings m.station e (settled m.station c) ≤ m.shown) (under t) (fallen t))
+      moves : Ticks c m → settled_in m.station m.before (next settings m.station m.before r) (next settings m.station m.before (settled m.station r)) past ≤ m.shown
+      moves t = subst (λ w. w ≤ m.shown) (sym (a.settles m.station m.before)) (subst (λ e. next settings m.station e (settled m.station c) ≤ m.shown) (under t) (fallen t))
 
   -- ---- a claim
 

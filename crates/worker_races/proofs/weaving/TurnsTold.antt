@@ -76,14 +76,14 @@ told-heard : (base : ℕ) (h : List Keying) (offer : Option Offer) (answer : Opt
     → IsTold top (transmitting h) (transmitting (with_began follow (with_key None (key_taken answer) h)))
     (calls top (an_of (transmitting h)) (take_changes h offer answer ++ (beginning h2 follow).changes))
 told-heard base h offer answer follow top h2 silent whole kept newest =
-    told-taken base h None (key_taken answer) follow top (take_changes h offer answer) whole kept newest (quiet offer answer silent) (takes offer answer silent) h2
+    told-taken base h None (key_taken answer) follow top (take_changes h offer answer) whole kept newest (quiet offer answer) (takes offer answer silent) h2
   where
-    quiet : (offer : Option Offer) (answer : Option (Result Key Why)) → (offer ≡ None → answer ≡ None) → key_taken answer ≡ None
+    quiet : (offer : Option Offer) (answer : Option (Result Key Why)) → key_taken answer ≡ None
         → (o : Option AssociationNumber) (rest : List Change) → calls top o (take_changes h offer answer ++ rest) ≡ calls top o rest
-    quiet None answer silent is o rest = refl
-    quiet (Some f) None silent is o rest = refl
-    quiet (Some f) (Some (Ok k)) silent is o rest = absurd (cc is)
-    quiet (Some f) (Some (Err why)) silent is o rest = refl
+    quiet None answer is o rest = refl
+    quiet (Some f) None is o rest = refl
+    quiet (Some f) (Some (Ok k)) is o rest = absurd (cc is)
+    quiet (Some f) (Some (Err why)) is o rest = refl
 
     takes : (offer : Option Offer) (answer : Option (Result Key Why)) → (offer ≡ None → answer ≡ None) → (n : Key) → key_taken answer ≡ Some n
         → take_changes h offer answer ≡ (installing h None n).changes

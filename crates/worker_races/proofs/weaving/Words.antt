@@ -1,10 +1,10 @@
 -- From what the current word was told to what the places ask of the logs.
 use Rattle.std.proofs.Common.{◌≡◌, ◌⊎◌, ℕ, ◌<◌, ◌≤◌, Bool, true, false, cond, eqb, List, [], ◌∷◌, ◌++◌, refl, sym, ap, ◌∙◌, subst, arith, inl, inr, true≢false}
 use Rattle.lan_base.specs.declared.association_number.AssociationNumber.{AssociationNumber}
-use Rattle.std.proofs.lemmas.Bool.{cond-true, cond-false, cases_lt, cases_Bool, eq-eqb, ne_eqb, eqb-true}
+use Rattle.std.proofs.lemmas.Bool.{cond-true, cond-false, cases_lt, cases_Bool, eqb-true, eqb-false}
 use Rattle.association_slots.specs.declared.view.Current.{Current}
 use Rattle.association_slots.specs.Views.{In, WasAbsent, absent_after, present_at}
-use Rattle.worker_races.specs.merge.Places.{Move, Standing, Follows, Begun, Lives, Noted, last_of, standing_after}
+use Rattle.worker_races.specs.merge.Places.{Move, Standing, Begun, Lives, Noted, last_of, standing_after}
 use Rattle.worker_races.specs.merge.Words.{told_by, told_in}
 use Rattle.worker_races.proofs.weaving.PlaceLemmas.{last_of-cases}
 
@@ -57,40 +57,37 @@ moment ans top a m was = go m.gap (eqb m.after m.before) (eqb m.after 0) refl re
     go false false false g p q (inl h) = absurd (true≢false h.0)
     go false false false g p q (inr h) = absurd h
 
-noted-in : (ans : ℕ → AssociationNumber) (s a : ℕ) (ms : List Move) (now : Standing) → now.transmitting ≤ now.pointed → Follows s now ms
+noted-in : (ans : ℕ → AssociationNumber) (s a : ℕ) (ms : List Move) (now : Standing)
     → AbsentIn (told_in ans s now.pointed ms) a → Noted s now a ms
 unfolding told_in AbsentIn
-noted-in ans s a [] now le f was = absurd was
-noted-in ans s a (m ∷ ms) now le (inr n) was =
-    inr (inr (inr (
-      n.0,
-      noted-in ans s a ms now le n.1
-          (subst (λ ps. AbsentIn ps a) (cond-false (eqb m.station s) _ _ (ne_eqb _ _ n.0)) was),
-    )))
-noted-in ans s a (m ∷ ms) now le (inl f) was =
-    elim (absent-parts (told_in ans s (last_of now.pointed m) ms) (told_by ans now.pointed m) a
-    (subst (λ ps. AbsentIn ps a) (cond-true (eqb m.station s) _ _ (eq-eqb _ _ f.0)) was)) [
-      | inl later ↦ inr (inr (inl (f.0, noted-in ans s a ms (standing_after now m) (above now.pointed m) f.3 later)))
-      | inr here ↦ elim (moment ans now.pointed a m here) [
-        | inl gap ↦ inr (inl (f.0, gap.0, gap.1))
-        | inr gone ↦ inr (inr (inl (
-          f.0,
-          start (standing_after now m) a s ms
-              (gone.0, (elim (last_of-cases now.pointed m) [ inl c ↦ (let z = gone.0 in let l = c.0 in absurd (omega (arith, z, l))) | inr c ↦ c.1 ∙ gone.1 ])),
-        )))
-      ]
-    ]
-  where
-    above : (top : ℕ) (m : Move) → m.after ≤ last_of top m
-    above top m = elim (last_of-cases top m) [ inl c ↦ omega arith | inr c ↦ omega arith ]
+noted-in ans s a [] now was = absurd was
+noted-in ans s a (m ∷ ms) now was = elim (cases_Bool (eqb m.station s)) [
+  | inr other ↦ inr (inr (inr (
+    eqb-false m.station s other,
+    noted-in ans s a ms now (subst (λ ps. AbsentIn ps a) (cond-false (eqb m.station s) _ _ other) was),
+  )))
+  | inl own ↦ (let same : m.station ≡ s = eqb-true m.station s own in
+      elim (absent-parts (told_in ans s (last_of now.pointed m) ms) (told_by ans now.pointed m) a
+      (subst (λ ps. AbsentIn ps a) (cond-true (eqb m.station s) _ _ own) was)) [
+        | inl later ↦ inr (inr (inl (same, noted-in ans s a ms (standing_after now m) later)))
+        | inr here ↦ elim (moment ans now.pointed a m here) [
+          | inl gap ↦ inr (inl (same, gap.0, gap.1))
+          | inr gone ↦ inr (inr (inl (
+            same,
+            start (standing_after now m) a s ms
+                (gone.0, (elim (last_of-cases now.pointed m) [ inl c ↦ (let z = gone.0 in let l = c.0 in absurd (omega (arith, z, l))) | inr c ↦ c.1 ∙ gone.1 ])),
+          )))
+        ]
+      ])
+]
 
 -- A note of nothing present after an epoch that is not below the last one before the race was made
 -- where the places ask for it.
-pub noted : (ans : ℕ → AssociationNumber) (s a : ℕ) (ms : List Move) (now : Standing) (old : List Current) → now.transmitting ≤ now.pointed → Follows s now ms
+pub noted : (ans : ℕ → AssociationNumber) (s a : ℕ) (ms : List Move) (now : Standing) (old : List Current)
     → (WasAbsent old a → (a ≤ now.pointed) × (0 < now.transmitting → a < now.pointed)) → now.pointed ≤ a
     → WasAbsent (told_in ans s now.pointed ms ++ old) a → Noted s now a ms
-noted ans s a ms now old le f low high was = elim (was-in (told_in ans s now.pointed ms) old a was) [
-  | inl new ↦ noted-in ans s a ms now le f new
+noted ans s a ms now old low high was = elim (was-in (told_in ans s now.pointed ms) old a was) [
+  | inl new ↦ noted-in ans s a ms now new
   | inr before ↦ (let b = low before in start now a s ms (none b, (let c = b.0 in omega (arith, c, high))))
 ]
   where

@@ -99,7 +99,7 @@ pub fn law_control_is_raced()
 /// its last epoch, is where the places ask for it.
 pub fn law_words_place_the_logs()
     ensures noted { (ans : ℕ → AssociationNumber) (s a : ℕ) (moves : List Move) (now : Standing)
-        (old : List Current) → now.transmitting ≤ now.pointed → Follows s now moves
+        (old : List Current)
         → (WasAbsent old a → (a ≤ now.pointed) × (0 < now.transmitting → a < now.pointed))
         → now.pointed ≤ a → WasAbsent (told_in ans s now.pointed moves ++ old) a
         → Noted s now a moves }

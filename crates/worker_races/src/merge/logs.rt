@@ -22,9 +22,9 @@ ghost use Rattle.lan_core.specs.Claims.{user_at};
 ghost use Rattle.lan_core.specs.Order.{Exists, IsSendable};
 ghost use Rattle.lan_core.specs.Legal.{IsStepped};
 ghost use Rattle.lan_core.specs.Parts.{followed_by, without_claims, AreProtected};
-ghost use Rattle.worker_races.specs.merge.Places.{Move, Follows};
+ghost use Rattle.worker_races.specs.merge.Places.{Move};
 ghost use Rattle.worker_races.specs.merge.Merged.{AllPairs, Differ, InLog, IsFit, entries_of};
-ghost use Rattle.worker_races.specs.merge.Raced.{IsAttempt, before_of, standing_at};
+ghost use Rattle.worker_races.specs.merge.Raced.{IsAttempt, before_of};
 ghost use Rattle.worker_races.specs.merge.Steps.{attempt_of, counted_from, logs_of};
 ghost use Rattle.worker_races.specs.merge.Weaving.{IsWoven};
 ghost use Rattle.worker_races.specs.merge.Taking.{frames_of};
@@ -51,8 +51,6 @@ pub fn law_logs_of_workers_fit_a_race()
         → BeganAfter settings ans sender.station (pointed sender.station) r old v.start
         → c.points ≡ told_in ans sender.station (pointed sender.station) moves ++ old
         → AreAns ans c.points
-        → Follows sender.station
-        (standing_at settings sender.station (pointed sender.station) r) moves
         → AllByRecursion (IsFit (before_of settings pointed r) moves) (map (attempt_of u) log) }
     // Over all logs: where no number of an epoch was taken twice at a station.
     ensures differ { (logs : List (List Entry))

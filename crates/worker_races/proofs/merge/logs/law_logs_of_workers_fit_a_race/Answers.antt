@@ -15,10 +15,10 @@ returns-clause-attempts g users base ans r u v w sender log c is learned there p
     are-attempts users base ans r u w sender _ there place number sendable are log is.entries (told_log sender w c learned v log is)
 
 pub returns-clause-fits : goal.returns-clause-fits
-returns-clause-fits g settings ans pointed r moves old u v w sender log c is none learned began words are goes =
+returns-clause-fits g settings ans pointed r moves old u v w sender log c is none learned began words are =
     are-fit settings ans pointed r moves old u w sender _
     (subst (λ (start : Start). BeganAfter settings ans sender.station (pointed sender.station) r old start) (sym is.start) began)
-    words are goes log none is.entries (told_log sender w c learned v log is)
+    words are log none is.entries (told_log sender w c learned v log is)
 
 pub returns-clause-differ : goal.returns-clause-differ
 returns-clause-differ c = logs-differ
