@@ -221,30 +221,30 @@ new-later base h r n b kept is k sends =
 
 -- an install, or none, and then a beginning, or none: as at a hearing
 pub told-taken : (base : ℕ) (h : List Keying) (r : Option (List Mi)) (key : Option Key) (follow : Option Beginning) (top : ℕ) (cs : List Change)
-    → KeepsRules base (with_began follow (with_key r key h)) → KeepsRules base (with_key r key h)
+    → KeepsRules base (with_began follow (with_key r key h))
     → ((b : Beginning) → follow ≡ Some b → latest (with_key r key h) ≡ Some b.key)
     → (key ≡ None → (o : Option AssociationNumber) (rest : List Change) → calls top o (cs ++ rest) ≡ calls top o rest)
     → ((n : Key) → key ≡ Some n → cs ≡ (installing h r n).changes)
     → (h2 : List Keying)
     → IsTold top (transmitting h) (transmitting (with_began follow (with_key r key h)))
     (calls top (an_of (transmitting h)) (cs ++ (beginning h2 follow).changes))
-told-taken base h r None None top cs whole kept newest quiet takes h2 =
+told-taken base h r None None top cs whole newest quiet takes h2 =
     told.stays refl (quiet refl (an_of (transmitting h)) [])
-told-taken base h r None (Some b) top cs whole kept newest quiet takes h2 =
+told-taken base h r None (Some b) top cs whole newest quiet takes h2 =
     told.begins b.key (sends-began base h b.key whole (newest b refl)) (latest-later base h b.key whole (newest b refl)) (quiet refl (an_of (transmitting h)) (beginning h2 (Some b)).changes)
-told-taken base h r (Some n) None top cs whole kept newest quiet takes h2 =
+told-taken base h r (Some n) None top cs whole newest quiet takes h2 =
     go (transmitting h) refl
   where
     words : calls top (an_of (transmitting h)) (cs ++ []) ≡ gone top n.an (transmitting h)
-    words = ap (λ l. calls top (an_of (transmitting h)) (l ++ [])) (takes n refl) ∙ (install-calls base h r n top [] kept ∙ append-nil (gone top n.an (transmitting h)))
+    words = ap (λ l. calls top (an_of (transmitting h)) (l ++ [])) (takes n refl) ∙ (install-calls base h r n top [] whole ∙ append-nil (gone top n.an (transmitting h)))
 
     go : (o : Option Key) → transmitting h ≡ o → IsTold top (transmitting h) (transmitting (installed r n ∷ h)) (calls top (an_of (transmitting h)) (cs ++ []))
-    go None is = told.stays (sends-installed base h r n kept ∙ (ap (apart n.an) is ∙ sym is)) (words ∙ ap (gone top n.an) is)
+    go None is = told.stays (sends-installed base h r n whole ∙ (ap (apart n.an) is ∙ sym is)) (words ∙ ap (gone top n.an) is)
     go (Some k) is = elim (cases_Bool (same_an n.an k.an)) [
-      | inl same ↦ told.ends k is (sends-installed base h r n kept ∙ (ap (apart n.an) is ∙ rw same refl)) (words ∙ (ap (gone top n.an) is ∙ rw same refl))
-      | inr other ↦ told.stays (sends-installed base h r n kept ∙ (ap (apart n.an) is ∙ (rw other refl ∙ sym is))) (words ∙ (ap (gone top n.an) is ∙ rw other refl))
+      | inl same ↦ told.ends k is (sends-installed base h r n whole ∙ (ap (apart n.an) is ∙ rw same refl)) (words ∙ (ap (gone top n.an) is ∙ rw same refl))
+      | inr other ↦ told.stays (sends-installed base h r n whole ∙ (ap (apart n.an) is ∙ (rw other refl ∙ sym is))) (words ∙ (ap (gone top n.an) is ∙ rw other refl))
     ]
-told-taken base h r (Some n) (Some b) top cs whole kept newest quiet takes h2 =
+told-taken base h r (Some n) (Some b) top cs whole newest quiet takes h2 =
     go (transmitting h) refl
   where
     sends : transmitting (began b.key.epoch ∷ installed r n ∷ h) ≡ Some b.key
@@ -253,14 +253,14 @@ told-taken base h r (Some n) (Some b) top cs whole kept newest quiet takes h2 =
     words : calls top (an_of (transmitting h)) (cs ++ (beginning h2 (Some b)).changes) ≡ gone top n.an (transmitting h) ++ pointed (Some b)
     words =
         ap (λ l. calls top (an_of (transmitting h)) (l ++ (beginning h2 (Some b)).changes)) (takes n refl)
-        ∙ install-calls base h r n top (beginning h2 (Some b)).changes kept
+        ∙ install-calls base h r n top (beginning h2 (Some b)).changes whole.1
 
     go : (o : Option Key) → transmitting h ≡ o
         → IsTold top (transmitting h) (transmitting (began b.key.epoch ∷ installed r n ∷ h)) (calls top (an_of (transmitting h)) (cs ++ (beginning h2 (Some b)).changes))
-    go None is = told.begins b.key sends (new-later base h r n b.key kept (newest b refl)) (words ∙ ap (λ o. gone top n.an o ++ pointed (Some b)) is)
+    go None is = told.begins b.key sends (new-later base h r n b.key whole.1 (newest b refl)) (words ∙ ap (λ o. gone top n.an o ++ pointed (Some b)) is)
     go (Some k) is = elim (cases_Bool (same_an n.an k.an)) [
-      | inl same ↦ told.changes k b.key is sends (new-later base h r n b.key kept (newest b refl) k is) (words ∙ (ap (λ o. gone top n.an o ++ pointed (Some b)) is ∙ rw same refl))
-      | inr other ↦ told.begins b.key sends (new-later base h r n b.key kept (newest b refl)) (words ∙ (ap (λ o. gone top n.an o ++ pointed (Some b)) is ∙ rw other refl))
+      | inl same ↦ told.changes k b.key is sends (new-later base h r n b.key whole.1 (newest b refl) k is) (words ∙ (ap (λ o. gone top n.an o ++ pointed (Some b)) is ∙ rw same refl))
+      | inr other ↦ told.begins b.key sends (new-later base h r n b.key whole.1 (newest b refl)) (words ∙ (ap (λ o. gone top n.an o ++ pointed (Some b)) is ∙ rw other refl))
     ]
 
 -- all keys are dropped: at a tick with no server, and at the end of a life

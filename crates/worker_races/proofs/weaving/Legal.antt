@@ -14,7 +14,7 @@ use Rattle.worker_races.specs.merge.Merged.{rank, sooner, numbered, merged, Befo
 use Rattle.worker_races.specs.merge.inside.Ordered.{is_control, now, next, settled, replaced, InOrder, AreInOrder, IsControl}
 use Rattle.worker_races.proofs.weaving.Stable.{IsUp, IsUp-in_order, each-append, each-in_order, pairs-in_order, each_weaker, each-filter}
 use Rattle.worker_races.proofs.weaving.PlaceLemmas.{stands-zero, taken_stands, taken_passed, taken_rises, refused_excused, Excused, before_place, tick_above, each_at, place-nil, place-here, place-next}
-use Rattle.worker_races.proofs.weaving.Woven.{log_in_order, woven_control, weak, le_then, rank_parts, rank_late}
+use Rattle.worker_races.proofs.weaving.Woven.{is-taken, log_in_order, woven_control, weak, le_then, rank_parts, rank_late}
 
 unfoldable pub after : ℕ → List Move → List Move
 after zero sts = sts
@@ -154,8 +154,8 @@ module _ (R : Before) (sts : List Move) (ctl : IsControl R sts) where
   unfolding IsGood Behind Counts ForTick
   tick_counts k st a sh (Control n u) good low o = λ s e. grow_at sts ctl.grow n k u st low good a (sym s) (sym e) sh
   tick_counts k st a sh (Claim x) good low o = λ r s e.
-      let l = good.lives r in
-      tick_above x r l.0 sts (R.standing x.station) (ctl.pointed x.station) (ctl.follows x.station) ctl.grow k st a (sym s) (sym e) sh (elim o [ inl h ↦ inl h | inr h ↦ inr (h.0, h.1 ∙ sym e) ])
+      tick_above x sts (R.standing x.station) (is-taken R sts ctl x r good) ctl.grow k st (record { at = a; station = sym s; under = sym e; shows = sh })
+      (elim o [ inl h ↦ inl h | inr h ↦ inr (h.0, h.1 ∙ sym e) ])
 
   tick_all : (k : ℕ) (st : Move) → IsAt sts k st → 0 < st.shown → (past : List Mark) → AllByRecursion IsGood past → AllByRecursion (Behind k) past → AllByRecursion (ForTick k st) past
       → AllByRecursion (Counts st.station st.before st.shown) past

@@ -144,48 +144,69 @@ place_step x y st sts sooner ih = go (ends x st) (ends y st) refl refl
     go false true e f = absurd (both_ways _ e (sooner f))
     go false false e f = let k = ih e f in let h = place-next x st sts e in let g = place-next y st sts f in omega arith
 
--- lives, one step on
-lives_on : (x : Attempt) → x.refused ≡ false → (st : Move) (sts : List Move) (now : Standing) → st.station ≡ x.station → st.before ≡ now.transmitting → ends x st ≡ false → Lives x.station now x.epoch (st ∷ sts) → Lives x.station (standing_after now st) x.epoch sts
-lives_on x r st sts now s b h (inl e) = inl (taken_passed x st r h s (b ∙ e)).1
-lives_on x r st sts now s b h (inr (inl g)) = inl g.1
-lives_on x r st sts now s b h (inr (inr g)) = inr g
-
-lives_past : (s e : ℕ) (st : Move) (sts : List Move) (now : Standing) → (st.station ≡ s → ⊥) → Lives s now e (st ∷ sts) → Lives s now e sts
-lives_past s e st sts now n (inl h) = inl h
-lives_past s e st sts now n (inr (inl g)) = absurd (n g.0)
-lives_past s e st sts now n (inr (inr g)) = inr g
-
--- what lives and is not below what transmits and lives: e' transmits, so a lower e does not live
-not_both : (s e e' : ℕ) (sts : List Move) (now : Standing) → 0 < e → now.transmitting ≤ now.pointed → Follows s now sts → e < e' → now.transmitting ≡ e' → Lives s now e sts → ⊥
-not_both s e e' sts now pos le f lt h (inl k) = omega arith
-not_both s e e' sts now pos le f lt h (inr b) = elim (begun_above s e sts now pos le f b) [ inl k ↦ omega arith | inr k ↦ omega arith ]
-
 last_above : (top : ℕ) (st : Move) → st.after ≤ last_of top st
 last_above top st = elim (last_of-cases top st) [ inl c ↦ omega arith | inr c ↦ omega arith ]
 
-pub taken_taken : (x y : Attempt) → x.refused ≡ false → y.refused ≡ false → y.station ≡ x.station → 0 < x.epoch → x.epoch < y.epoch → (sts : List Move) (now : Standing) → now.transmitting ≤ now.pointed → Follows x.station now sts
-    → Lives x.station now x.epoch sts → place x sts ≤ place y sts
-taken_taken x y r r' s pos up [] now le f l = let a = place-nil x in omega arith
-taken_taken x y r r' s pos up (st ∷ sts) now le (inr n) l =
-    place_step x y st sts (λ h. absurd (n.0 ((taken_ends y st r' h).here ∙ s))) (λ e g. taken_taken x y r r' s pos up sts now le n.1 (lives_past x.station x.epoch st sts now n.0 l))
-taken_taken x y r r' s pos up (st ∷ sts) now le (inl m) l =
-    place_step x y st sts
-    (λ h. absurd (not_both x.station x.epoch y.epoch (st ∷ sts) now pos le (inl m) up (sym m.1 ∙ (taken_ends y st r' h).under) l))
-    (λ e g. taken_taken x y r r' s pos up sts (standing_after now st) (last_above now.pointed st) m.3 (lives_on x r st sts now m.0 m.1 e l))
+-- an attempt that took a number of an epoch, which transmits now or after a later step, where no later one was pointed at
+-- than transmits or did
+pub record IsTaken (x : Attempt) (now : Standing) (sts : List Move) : Type 0 where
+  pub taken : x.refused ≡ false
+  pub some : 0 < x.epoch
+  pub low : now.transmitting ≤ now.pointed
+  pub goes : Follows x.station now sts
+  pub lives : Lives x.station now x.epoch sts
 
-pub taken_refused : (x y : Attempt) → x.refused ≡ false → y.refused ≡ true → y.station ≡ x.station → 0 < x.epoch → x.epoch ≤ y.epoch → (sts : List Move) (now : Standing) → now.transmitting ≤ now.pointed → Follows x.station now sts
-    → Lives x.station now x.epoch sts → place x sts ≤ place y sts
-taken_refused x y r r' s pos up [] now le f l = let a = place-nil x in omega arith
-taken_refused x y r r' s pos up (st ∷ sts) now le (inr n) l =
-    place_step x y st sts (λ h. absurd (n.0 ((refused_ends y st r' h).0 ∙ s))) (λ e g. taken_refused x y r r' s pos up sts now le n.1 (lives_past x.station x.epoch st sts now n.0 l))
-taken_refused x y r r' s pos up (st ∷ sts) now le (inl m) l =
-    place_step x y st sts (λ h. ended (refused_ends y st r' h).1 l)
-    (λ e g. taken_refused x y r r' s pos up sts (standing_after now st) (last_above now.pointed st) m.3 (lives_on x r st sts now m.0 m.1 e l))
+-- so it is after the first step: that is one of another station, or its own and does not end the attempt's time
+data Onward (x : Attempt) (now : Standing) (st : Move) (sts : List Move) : Type 0 where
+  other : (st.station ≡ x.station → ⊥) → IsTaken x now sts → Onward x now st sts
+  own : st.before ≡ now.transmitting → (ends x st ≡ false → IsTaken x (standing_after now st) sts) → Onward x now st sts
+
+onward : (x : Attempt) (now : Standing) (st : Move) (sts : List Move) → IsTaken x now (st ∷ sts) → Onward x now st sts
+onward x now st sts t = elim t.goes [
+  | inr n ↦ other n.0 (record { taken = t.taken; some = t.some; low = t.low; goes = n.1; lives = past n.0 t.lives })
+  | inl m ↦ own m.1 (λ e. record { taken = t.taken; some = t.some; low = last_above now.pointed st; goes = m.3; lives = on m.0 m.1 e t.lives })
+]
   where
-    ended : y.epoch < st.after → Lives x.station now x.epoch (st ∷ sts) → ends x st ≡ true
-    ended h (inl k) = taken_ends_from x st r (record { here = m.0; under = m.1 ∙ k; over = inr (λ q. omega arith) })
-    ended h (inr (inl b)) = absurd (omega arith)
-    ended h (inr (inr b)) = elim (begun_above x.station x.epoch sts (standing_after now st) pos (last_above now.pointed st) m.3 b) [ inl k ↦ absurd (omega arith) | inr k ↦ absurd (let q = last_above now.pointed st in omega arith) ]
+    past : (st.station ≡ x.station → ⊥) → Lives x.station now x.epoch (st ∷ sts) → Lives x.station now x.epoch sts
+    past n (inl h) = inl h
+    past n (inr (inl g)) = absurd (n g.0)
+    past n (inr (inr g)) = inr g
+
+    on : st.station ≡ x.station → st.before ≡ now.transmitting → ends x st ≡ false → Lives x.station now x.epoch (st ∷ sts) → Lives x.station (standing_after now st) x.epoch sts
+    on s b h (inl e) = inl (taken_passed x st t.taken h s (b ∙ e)).1
+    on s b h (inr (inl g)) = inl g.1
+    on s b h (inr (inr g)) = inr g
+
+-- what transmits is not of a later epoch
+transmits_low : (x : Attempt) (sts : List Move) (now : Standing) → IsTaken x now sts → now.transmitting ≤ x.epoch
+transmits_low x sts now t = elim t.lives [
+  | inl k ↦ omega arith
+  | inr b ↦ elim (begun_above x.station x.epoch sts now t.some t.low t.goes b) [ inl k ↦ omega arith | inr k ↦ (let low = t.low in omega arith) ]
+]
+
+pub taken_taken : (x y : Attempt) → y.refused ≡ false → y.station ≡ x.station → x.epoch < y.epoch → (sts : List Move) (now : Standing)
+    → IsTaken x now sts → place x sts ≤ place y sts
+taken_taken x y r s up [] now t = let a = place-nil x in omega arith
+taken_taken x y r s up (st ∷ sts) now t = elim (onward x now st sts t) [
+  | other n rest ↦ place_step x y st sts (λ h. absurd (n ((taken_ends y st r h).here ∙ s))) (λ e g. taken_taken x y r s up sts now rest)
+  | own before rest ↦ place_step x y st sts
+      (λ h. absurd (let low = transmits_low x (st ∷ sts) now t in let q = (taken_ends y st r h).under in omega arith))
+      (λ e g. taken_taken x y r s up sts (standing_after now st) (rest e))
+]
+
+pub taken_refused : (x y : Attempt) → y.refused ≡ true → y.station ≡ x.station → x.epoch ≤ y.epoch → (sts : List Move) (now : Standing)
+    → IsTaken x now sts → place x sts ≤ place y sts
+taken_refused x y r s up [] now t = let a = place-nil x in omega arith
+taken_refused x y r s up (st ∷ sts) now t = elim (onward x now st sts t) [
+  | other n rest ↦ place_step x y st sts (λ h. absurd (n ((refused_ends y st r h).0 ∙ s))) (λ e g. taken_refused x y r s up sts now rest)
+  | own before rest ↦ place_step x y st sts (λ h. ended rest (refused_ends y st r h).1) (λ e g. taken_refused x y r s up sts (standing_after now st) (rest e))
+]
+  where
+    ended : (ends x st ≡ false → IsTaken x (standing_after now st) sts) → y.epoch < st.after → ends x st ≡ true
+    ended rest later = elim (cases_Bool (ends x st)) [
+      | inl h ↦ h
+      | inr h ↦ absurd (let low : st.after ≤ x.epoch = transmits_low x sts (standing_after now st) (rest h) in omega arith)
+    ]
 
 pub refused_taken : (x y : Attempt) → x.refused ≡ true → y.refused ≡ false → y.station ≡ x.station → x.epoch < y.epoch → (sts : List Move) (now : Standing) → now.transmitting ≤ x.epoch → Follows x.station now sts
     → place x sts ≤ place y sts
@@ -295,35 +316,42 @@ under_lives s (u ∷ sts) now zero st (inr n) a h = absurd (n.0 (ap (λ w. w.sta
 under_lives s (u ∷ sts) now (suc j) st (inr n) a h = elim (under_lives s sts now j st n.1 a h) [ inl e ↦ inl e | inr b ↦ inr (inr b) ]
 under_lives s (u ∷ sts) now (suc j) st (inl m) a h = elim (under_lives s sts (standing_after now u) j st m.3 a h) [ inl e ↦ inr (inl (m.0, e)) | inr b ↦ inr (inr b) ]
 
-pub tick_above : (x : Attempt) → x.refused ≡ false → 0 < x.epoch → (sts : List Move) (now : Standing) → now.transmitting ≤ now.pointed → Follows x.station now sts → AllGrow sts → (j : ℕ) (st : Move) → IsAt sts j st
-    → st.station ≡ x.station → st.before ≡ x.epoch → 0 < st.shown → (place x sts < j) ⊎ (place x sts ≡ j × st.after ≡ x.epoch) → x.number < st.shown
-tick_above x r pos [] now le f g j st a s b sh o = absurd a
-tick_above x r pos (u ∷ sts) now le f g zero st a s b sh (inl l) = absurd (omega arith)
-tick_above x r pos (u ∷ sts) now le f g zero st a s b sh (inr q) = elim (cases_Bool (ends x u)) [
+-- a tick of an attempt's station, under its epoch
+pub record IsTick (x : Attempt) (sts : List Move) (j : ℕ) (st : Move) : Type 0 where
+  pub at : IsAt sts j st
+  pub station : st.station ≡ x.station
+  pub under : st.before ≡ x.epoch
+  pub shows : 0 < st.shown
+
+pub tick_above : (x : Attempt) (sts : List Move) (now : Standing) → IsTaken x now sts → AllGrow sts → (j : ℕ) (st : Move) → IsTick x sts j st
+    → (place x sts < j) ⊎ (place x sts ≡ j × st.after ≡ x.epoch) → x.number < st.shown
+tick_above x [] now t g j st k o = absurd k.at
+tick_above x (u ∷ sts) now t g zero st k (inl l) = absurd (omega arith)
+tick_above x (u ∷ sts) now t g zero st k (inr q) = elim (cases_Bool (ends x u)) [
   | inr h ↦ absurd (let e = place-next x u sts h in let w = q.0 in omega arith)
-  | inl h ↦ elim (subst (λ w. TakenEnd x w) a (taken_ends x u r h)).over [ inl l ↦ l | inr n ↦ absurd (n q.1) ]
+  | inl h ↦ elim (subst (λ w. TakenEnd x w) k.at (taken_ends x u t.taken h)).over [ inl l ↦ l | inr n ↦ absurd (n q.1) ]
 ]
-tick_above x r pos (u ∷ sts) now le (inr n) g (suc j) st a s b sh o = elim (cases_Bool (ends x u)) [
-  | inl h ↦ absurd (n.0 (taken_ends x u r h).here)
-  | inr h ↦ tick_above x r pos sts now le n.1 g.1 j st a s b sh (down h o)
-]
-  where
-    down : ends x u ≡ false → (place x (u ∷ sts) < suc j) ⊎ (place x (u ∷ sts) ≡ suc j × st.after ≡ x.epoch) → (place x sts < j) ⊎ (place x sts ≡ j × st.after ≡ x.epoch)
-    down h (inl l) = inl (let e = place-next x u sts h in omega arith)
-    down h (inr q) = inr (let e = place-next x u sts h in let w = q.0 in omega arith, q.1)
-tick_above x r pos (u ∷ sts) now le (inl m) g (suc j) st a s b sh o = elim (cases_Bool (ends x u)) [
-  | inl h ↦ here (taken_ends x u r h)
-  | inr h ↦ tick_above x r pos sts (standing_after now u) (last_above now.pointed u) m.3 g.1 j st a s b sh (down h o)
+tick_above x (u ∷ sts) now t g (suc j) st k o = elim (cases_Bool (ends x u)) [
+  | inl h ↦ here (taken_ends x u t.taken h) t.goes
+  | inr h ↦ elim (onward x now u sts t) [
+    | other n rest ↦ tick_above x sts now rest g.1 j st next (down h o)
+    | own before rest ↦ tick_above x sts (standing_after now u) (rest h) g.1 j st next (down h o)
+  ]
 ]
   where
-    here : TakenEnd x u → x.number < st.shown
-    here e = elim e.over [
-      | inl l ↦ let grown = each_at (Grows u) sts j st g.0 a (s ∙ sym e.here) (b ∙ sym e.under) sh in omega arith
-      | inr n ↦ absurd (elim (under_lives x.station sts (standing_after now u) j st m.3 a s) [
-        | inl q ↦ n (q ∙ b)
-        | inr q ↦ elim (begun_above x.station st.before sts (standing_after now u) (omega arith) (last_above now.pointed u) m.3 q) [
-          | inl w ↦ n (sym w ∙ b)
-          | inr w ↦ (let v = e.under in let k = m.1 in elim (last_of-cases now.pointed u) [ inl c ↦ omega arith | inr c ↦ omega arith ])
+    next : IsTick x sts j st
+    next = record { at = k.at; station = k.station; under = k.under; shows = k.shows }
+
+    here : TakenEnd x u → Follows x.station now (u ∷ sts) → x.number < st.shown
+    here e (inr n) = absurd (n.0 e.here)
+    here e (inl m) = elim e.over [
+      | inl l ↦ let grown = each_at (Grows u) sts j st g.0 k.at (k.station ∙ sym e.here) (k.under ∙ sym e.under) k.shows in omega arith
+      | inr n ↦ absurd (elim (under_lives x.station sts (standing_after now u) j st m.3 k.at k.station) [
+        | inl q ↦ n (q ∙ k.under)
+        | inr q ↦ elim (begun_above x.station st.before sts (standing_after now u) (let b = k.under in let some = t.some in omega arith) (last_above now.pointed u) m.3 q) [
+          | inl w ↦ n (sym w ∙ k.under)
+          | inr w ↦ (let v = e.under in let b = k.under in let low = t.low in let c = m.1 in
+              elim (last_of-cases now.pointed u) [ inl c ↦ omega arith | inr c ↦ omega arith ])
         ]
       ])
     ]

@@ -29,28 +29,31 @@ use Rattle.worker_races.proofs.weaving.Calls.{sends-ticked, sends-dropped, sends
 
 -- ---- a tick
 
+kept-key : (base : ℕ) (r : Option (List Mi)) (key : Option Key) (g : List Keying) → KeepsRules base (with_key r key g) → KeepsRules base g
+kept-key base r None g kept = kept
+kept-key base r (Some n) g kept = kept.2
+
 told-ticked : (base : ℕ) (h : List Keying) (server : Option Mi) (lead : Option Beginning) (roster : Option (List Mi)) (key : Option Key) (top : ℕ)
-    → KeepsRules base h → KeepsRules base (with_began lead (ticked (is_some server) ∷ h))
     → KeepsRules base (with_key roster key (with_began lead (ticked (is_some server) ∷ h)))
     → (server ≡ None → (lead ≡ None) × (key ≡ None)) → ((b : Beginning) → lead ≡ Some b → key ≡ None)
     → ((b : Beginning) → lead ≡ Some b → latest (ticked (is_some server) ∷ h) ≡ Some b.key)
     → IsTold top (transmitting h) (transmitting (with_key roster key (with_began lead (ticked (is_some server) ∷ h))))
     (calls top (an_of (transmitting h)) (ended h server ++ ((beginning (ticked (is_some server) ∷ h) lead).changes
     ++ install_changes (ticked (is_some server) ∷ h) roster key)))
-told-ticked base h None None roster None top kept then whole none one newest =
+told-ticked base h None None roster None top whole none one newest =
     subst (λ cs. IsTold top (transmitting h) (transmitting (ticked false ∷ h)) (calls top (an_of (transmitting h)) cs)) (sym (append-nil (drops h (received h))))
-    (told-dropped h top (transmitting (ticked false ∷ h)) (sends-dropped base h kept))
-told-ticked base h None (Some b) roster key top kept then whole none one newest = absurd (let no = (none refl).0 in cc no)
-told-ticked base h None None roster (Some n) top kept then whole none one newest = absurd (let no = (none refl).1 in cc no)
-told-ticked base h (Some s) (Some b) roster (Some n) top kept then whole none one newest = absurd (let no = one b refl in cc no)
-told-ticked base h (Some s) (Some b) roster None top kept then whole none one newest =
-    told.begins b.key (sends-began base (ticked true ∷ h) b.key then (newest b refl))
-    (λ k is. latest-later base (ticked true ∷ h) b.key then (newest b refl) k (sends-ticked base h kept ∙ is))
+    (told-dropped h top (transmitting (ticked false ∷ h)) (sends-dropped base h whole))
+told-ticked base h None (Some b) roster key top whole none one newest = absurd (let no = (none refl).0 in cc no)
+told-ticked base h None None roster (Some n) top whole none one newest = absurd (let no = (none refl).1 in cc no)
+told-ticked base h (Some s) (Some b) roster (Some n) top whole none one newest = absurd (let no = one b refl in cc no)
+told-ticked base h (Some s) (Some b) roster None top whole none one newest =
+    told.begins b.key (sends-began base (ticked true ∷ h) b.key whole (newest b refl))
+    (λ k is. latest-later base (ticked true ∷ h) b.key whole (newest b refl) k (sends-ticked base h whole.1 ∙ is))
     (retire-calls h top (an_of (transmitting h)) ((beginning (ticked true ∷ h) (Some b)).changes ++ []))
-told-ticked base h (Some s) None roster key top kept then whole none one newest =
+told-ticked base h (Some s) None roster key top whole none one newest =
     let h1 = ticked true ∷ h in
-    let same = sends-ticked base h kept in
-    let told1 = told-taken base h1 roster key None top (install_changes h1 roster key) whole whole (λ b is. absurd (cc is)) (quiet h1 key)
+    let same = sends-ticked base h (kept-key base roster key h1 whole) in
+    let told1 = told-taken base h1 roster key None top (install_changes h1 roster key) whole (λ b is. absurd (cc is)) (quiet h1 key)
     (takes h1 key) h1 in
     subst (λ ws. IsTold top (transmitting h) (transmitting (with_key roster key h1)) ws)
     (sym (retire-calls h top (an_of (transmitting h)) (install_changes h1 roster key)))
@@ -71,12 +74,12 @@ told-ticked base h (Some s) None roster key top kept then whole none one newest 
 
 told-heard : (base : ℕ) (h : List Keying) (offer : Option Offer) (answer : Option (Result Key Why)) (follow : Option Beginning) (top : ℕ) (h2 : List Keying)
     → (offer ≡ None → answer ≡ None)
-    → KeepsRules base (with_began follow (with_key None (key_taken answer) h)) → KeepsRules base (with_key None (key_taken answer) h)
+    → KeepsRules base (with_began follow (with_key None (key_taken answer) h))
     → ((b : Beginning) → follow ≡ Some b → latest (with_key None (key_taken answer) h) ≡ Some b.key)
     → IsTold top (transmitting h) (transmitting (with_began follow (with_key None (key_taken answer) h)))
     (calls top (an_of (transmitting h)) (take_changes h offer answer ++ (beginning h2 follow).changes))
-told-heard base h offer answer follow top h2 silent whole kept newest =
-    told-taken base h None (key_taken answer) follow top (take_changes h offer answer) whole kept newest (quiet offer answer) (takes offer answer silent) h2
+told-heard base h offer answer follow top h2 silent whole newest =
+    told-taken base h None (key_taken answer) follow top (take_changes h offer answer) whole newest (quiet offer answer) (takes offer answer silent) h2
   where
     quiet : (offer : Option Offer) (answer : Option (Result Key Why)) → key_taken answer ≡ None
         → (o : Option AssociationNumber) (rest : List Change) → calls top o (take_changes h offer answer ++ rest) ≡ calls top o rest
@@ -132,14 +135,6 @@ pub ending-changes : (m : Member) (p : List Entry) → (ending m p).changes ≡ 
 unfolding ending
 ending-changes m p = refl
 
-kept-key : (base : ℕ) (r : Option (List Mi)) (key : Option Key) (g : List Keying) → KeepsRules base (with_key r key g) → KeepsRules base g
-kept-key base r None g kept = kept
-kept-key base r (Some n) g kept = kept.2
-
-kept-begun : (base : ℕ) (b : Option Beginning) (g : List Keying) → KeepsRules base (with_began b g) → KeepsRules base g
-kept-begun base None g kept = kept
-kept-begun base (Some b) g kept = kept.1
-
 pub tick-told : (m : Member) (seen : Seen) (sak : Secret) (p : List Entry) (top : ℕ) → KeepsRules m.base (keys_of m p)
     → IsTold top (transmitting (keys_of m p)) (transmitting (keys_of m (tick_turn m seen sak p).past))
     (calls top (an_of (transmitting (keys_of m p))) (tick_turn m seen sak p).reaction.changes)
@@ -150,8 +145,7 @@ tick-told m seen sak p top kept =
     let now : v.keys ≡ ticked (is_some server) ∷ h = view-keys m (tick ∷ p) ∙ keys-ticked m p in
     let t = tick-is_turn m seen sak p in
     let whole = subst (KeepsRules m.base) (tick-keys m seen sak p) (kept-turn m.base h (keys_of m (tick_turn m seen sak p).past) t kept) in
-    let then = kept-key m.base (roster_at m p) (made m v seen sak) (with_began (led m v) (ticked (is_some server) ∷ h)) whole in
-    let is = told-ticked m.base h server (led m v) (roster_at m p) (made m v seen sak) top kept then whole
+    let is = told-ticked m.base h server (led m v) (roster_at m p) (made m v seen sak) top whole
     (λ none. (not-led m v (server-is m p ∙ none), not-made m v seen sak (server-is m p ∙ none)))
     (λ b is. lead-alone m v seen sak b is)
     (λ b is. subst (λ w. latest w ≡ Some b.key) now (led-is m v b is).latest_key) in
@@ -180,7 +174,6 @@ hear-told m a p top kept =
     let whole = subst (KeepsRules m.base) (hear-keys m a p) (kept-turn m.base h (keys_of m (hear_turn m a p).past) (hear-is_turn m a p) kept) in
     let is = told-heard m.base h (offer_at m a p) (answer_at m a p) (follow_at m a p) top v2.keys
     (λ none. silent m v1 (offer_at m a p) none) whole
-    (kept-begun m.base (follow_at m a p) (with_key None (key_taken (answer_at m a p)) h) whole)
     (λ b is. subst (λ w. latest w ≡ Some b.key) then (following-is v2 _ a b is).latest_key) in
     let cs : (hear_turn m a p).reaction.changes ≡ take_changes h (offer_at m a p) (answer_at m a p) ++ (beginning v2.keys (follow_at m a p)).changes =
     hear-changes m a p ∙ ap (λ k. take_changes k (offer_at m a p) (answer_at m a p) ++ (beginning v2.keys (follow_at m a p)).changes) now in

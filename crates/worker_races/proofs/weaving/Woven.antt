@@ -17,7 +17,7 @@ use Rattle.worker_races.specs.merge.Merged.{rank, sooner, numbered, merged, Befo
 use Rattle.worker_races.specs.merge.inside.Ordered.{is_control, is_of_log, IsControl}
 use Rattle.worker_races.proofs.weaving.Stable.{IsUp, part_kept, IsUp-in_order, stable-in_order, filter_none}
 use Rattle.worker_races.proofs.weaving.Order.{rank_total}
-use Rattle.worker_races.proofs.weaving.PlaceLemmas.{taken_taken, taken_refused, refused_taken, refused_refused, taken_rises}
+use Rattle.worker_races.proofs.weaving.PlaceLemmas.{IsTaken, taken_taken, taken_refused, refused_taken, refused_refused, taken_rises}
 
 -- one part of a lexicographic order
 pub then_le : (m n : ℕ) (o : Ordering) → n ≤ m → (m ≡ n → is_lt o ≡ false) → is_lt (ordering_then (nat_cmp m n) o) ≡ false
@@ -76,20 +76,30 @@ module _ (R : Before) (sts : List Move) (ctl : IsControl R sts) where
   flag : (x : Attempt) (b : Bool) → x.refused ≡ b → ◌≡◌ {A = ℕ} (cond x.refused 1 0) (cond b 1 0)
   flag x b h = ap {B = ℕ} (λ q. cond q 1 0) h
 
+  -- an attempt that fits, and took a number
+  pub is-taken : (x : Attempt) → x.refused ≡ false → IsFit R sts x → IsTaken x (R.standing x.station) sts
+  is-taken x taken fits = let lives = fits.lives taken in record {
+    taken = taken;
+    some = lives.0;
+    low = ctl.pointed x.station;
+    goes = ctl.follows x.station;
+    lives = lives.1;
+  }
+
   -- along one log ranks never fall
   pub log_in_order : (x y : Attempt) → IsFit R sts x → InLog x y → sooner sts (Claim y) (Claim x) ≡ false
   log_in_order x y fx h = go x.refused y.refused refl refl
     where
       go : (b d : Bool) → x.refused ≡ b → y.refused ≡ d → sooner sts (Claim y) (Claim x) ≡ false
       go false false e f =
-          let live = fx.lives e in let s = h.station in let g = h.log in let m = flag x false e in let n = flag y false f in
+          let s = h.station in let g = h.log in let m = flag x false e in let n = flag y false f in
           elim (h.taken_taken e f) [
-            | inl k ↦ rank_le (rank sts (Claim y)) (rank sts (Claim x)) (taken_taken x y e f s live.0 k sts (R.standing x.station) (ctl.pointed x.station) (ctl.follows x.station) live.1) refl (sym s) (inl k) (omega arith)
+            | inl k ↦ rank_le (rank sts (Claim y)) (rank sts (Claim x)) (taken_taken x y f s k sts (R.standing x.station) (is-taken x e fx)) refl (sym s) (inl k) (omega arith)
             | inr k ↦ rank_le (rank sts (Claim y)) (rank sts (Claim x)) (taken_rises x y e f s k.0 (let q = k.1 in omega arith) sts) refl (sym s) (inr (k.0, inr (m ∙ sym n, (let q = k.1 in omega arith)))) (omega arith)
           ]
       go false true e f =
-          let live = fx.lives e in let s = h.station in let g = h.log in let m = flag x false e in let n = flag y true f in let k = h.taken_refused e f in
-          rank_le (rank sts (Claim y)) (rank sts (Claim x)) (taken_refused x y e f s live.0 k sts (R.standing x.station) (ctl.pointed x.station) (ctl.follows x.station) live.1) refl (sym s)
+          let s = h.station in let g = h.log in let m = flag x false e in let n = flag y true f in let k = h.taken_refused e f in
+          rank_le (rank sts (Claim y)) (rank sts (Claim x)) (taken_refused x y f s k sts (R.standing x.station) (is-taken x e fx)) refl (sym s)
           (elim (cases_lt x.epoch y.epoch) [ inl l ↦ inl l | inr l ↦ inr (omega arith, inl (omega arith)) ]) (omega arith)
       go true false e f =
           let note = fx.noted e in let s = h.station in let g = h.log in let k = h.refused_taken e f in let low = ctl.pointed x.station in let up = note.0 in
