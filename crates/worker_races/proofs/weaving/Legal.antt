@@ -194,9 +194,6 @@ module _ (R : Before) (sts : List Move) (ctl : IsControl R sts) where
           next_bound st.station st.before _ st.shown (ctl.later n k u st low.0 good.0 a (eqb-true _ _ e) sh) (Control n u ∷ past)
           (tick_all k st a sh (Control n u ∷ past) good low (tt, before_step k st n u low.0 past down.0))
 
-  each_all : {X : Type 0} (P Q : X → Type 0) → ((x : X) → P x → Q x) → (xs : List X) → AllByRecursion P xs → AllByRecursion Q xs
-  each_all P Q f xs all = each_weaker P Q f xs all
-
   -- the heads of what stands across
   heads : (z : Mark) (zs past : List Mark) → AllByRecursion (λ y. AllByRecursion (Pair y) (z ∷ zs)) past → AllByRecursion (λ y. Pair y z) past
   heads z zs past all = each_weaker (λ y. AllByRecursion (Pair y) (z ∷ zs)) (λ y. Pair y z) (λ y h. h.0) past all
@@ -220,10 +217,6 @@ module _ (R : Before) (sts : List Move) (ctl : IsControl R sts) where
       → (s : ℕ) → now s (R.standing s).transmitting (Control k st ∷ past) ≡ stands s (R.standing s).transmitting sts (suc k)
   unfolding now
   now_step k st past a h s = ap (λ w. cond (eqb st.station s) st.after w) (h s) ∙ sym (stands_step s (R.standing s).transmitting sts k st a)
-
-  now_claim : (x : Attempt) (past : List Mark) (s t : ℕ) → now s t (Claim x ∷ past) ≡ now s t past
-  unfolding now
-  now_claim x past s t = refl
 
   -- ---- the law
   before_stands : (s : ℕ) (ss : List Move) (at : Standing) (n : ℕ) (st : Move) → Follows s at ss → IsAt ss n st → st.station ≡ s → st.before ≡ stands s at.transmitting ss n

@@ -147,8 +147,7 @@ place_step x y st sts sooner ih = go (ends x st) (ends y st) refl refl
 last_above : (top : ℕ) (st : Move) → st.after ≤ last_of top st
 last_above top st = elim (last_of-cases top st) [ inl c ↦ omega arith | inr c ↦ omega arith ]
 
--- an attempt that took a number of an epoch, which transmits now or after a later step, where no later one was pointed at
--- than transmits or did
+-- an attempt that took a number of an epoch, which transmits now or after a later step; and what transmits was pointed at
 pub record IsTaken (x : Attempt) (now : Standing) (sts : List Move) : Type 0 where
   pub taken : x.refused ≡ false
   pub some : 0 < x.epoch
@@ -156,7 +155,7 @@ pub record IsTaken (x : Attempt) (now : Standing) (sts : List Move) : Type 0 whe
   pub goes : Follows x.station now sts
   pub lives : Lives x.station now x.epoch sts
 
--- so it is after the first step: that is one of another station, or its own and does not end the attempt's time
+-- so it is behind the first step, which is of another station, or of its own where that does not end the attempt's time
 data Onward (x : Attempt) (now : Standing) (st : Move) (sts : List Move) : Type 0 where
   other : (st.station ≡ x.station → ⊥) → IsTaken x now sts → Onward x now st sts
   own : st.before ≡ now.transmitting → (ends x st ≡ false → IsTaken x (standing_after now st) sts) → Onward x now st sts

@@ -98,10 +98,6 @@ told-heard base h offer answer follow top h2 silent whole newest =
 
 -- ---- the turns of a station
 
-none-serves : (m : Member) (p : List Entry) → elected m (tick ∷ p) ≡ None → (view m (tick ∷ p)).server ≡ None
-unfolding view elected
-none-serves m p is = is
-
 not-led : (m : Member) (v : View) → v.server ≡ None → led m v ≡ None
 not-led m v is = rw is refl
 
