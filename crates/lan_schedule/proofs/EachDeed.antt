@@ -20,12 +20,14 @@ use Rattle.trace_acts.proofs.Public.{bytes-all, chosen-draws, comes-span, new-st
 use Rattle.trace_acts.proofs.Public.{where-none}
 use Rattle.lan_schedule.specs.declared.deed.Deed.{Deed}
 use Rattle.lan_schedule.specs.declared.deed.Deed.TheVariants as deeds
+use Rattle.lan_schedule.specs.declared.deed.Named.{Named}
+use Rattle.lan_schedule.specs.declared.deed.Named.TheVariants as named
 use Rattle.lan_schedule.specs.Races.{Bursting}
 use Rattle.lan_schedule.specs.World.{World, count, is_racing}
 use Rattle.lan_schedule.specs.Acts.{Act, nothing, refuse, exceed, happen, change, seq, look, race}
-use Rattle.lan_schedule.specs.Deeds.{IsInRange, deed_in, deed_of, is_control}
-use Rattle.lan_schedule.specs.Kinds.{no_frame, no_station, taken, wrong_frame, wrong_station}
-use Rattle.lan_schedule.specs.Kinds.{wrong_word}
+use Rattle.lan_schedule.specs.Deeds.{IsInRange, deed_in, deed_of, is_control, stations_named}
+use Rattle.lan_schedule.specs.Kinds.{first_wrong, no_frame, no_station, taken, wrong_frame}
+use Rattle.lan_schedule.specs.Kinds.{wrong_station, wrong_word}
 use Rattle.lan_schedule.specs.Lines.{act, act_or, add_user, choose, deed, enter, is_over, over_excess}
 use Rattle.lan_schedule.specs.Lines.{send}
 use Rattle.lan_schedule.specs.Sound.{IsTidy}
@@ -305,15 +307,14 @@ two-later from to w v later none =
     ap (λ (o : Option Kind). or_else o (no_station to (names_of v.run)))
     (station-later from w v later both.0) ∙ station-later to w v later both.1
 
+named-later : (all : Named ℕ) (w v : World) → IsLater w v
+    → first_wrong (λ s. no_station s (names_of w.run)) all ≡ None
+    → first_wrong (λ s. no_station s (names_of v.run)) all ≡ None
+named-later named.Nothing w v later none = refl
+named-later (named.One s) w v later none = station-later s w v later none
+named-later (named.Two from to) w v later none = two-later from to w v later none
+
 -- those of a deed are there in each later world
 pub wrong-later : (d : Deed) (w v : World) → IsLater w v → wrong_station d (names_of w.run) ≡ None
     → wrong_station d (names_of v.run) ≡ None
-wrong-later (deeds.TickOne s ticks) w v later none = station-later s w v later none
-wrong-later (deeds.Deliver frame s) w v later none = station-later s w v later none
-wrong-later (deeds.Feed first last s) w v later none = station-later s w v later none
-wrong-later (deeds.Cut from to) w v later none = two-later from to w v later none
-wrong-later (deeds.Mend from to) w v later none = two-later from to w v later none
-wrong-later (deeds.Restart s) w v later none = station-later s w v later none
-wrong-later (deeds.Send s user) w v later none = station-later s w v later none
-wrong-later (deeds.Inject s octets) w v later none = station-later s w v later none
-wrong-later _ w v later none = refl
+wrong-later d w v later none = named-later (stations_named d) w v later none

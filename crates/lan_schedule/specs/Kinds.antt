@@ -1,7 +1,7 @@
 -- Which line is refused, and the first reason (this profile's own rule).
 use Rattle.std.specs.Prelude.{ℕ, ◌+◌, nat_le, nat_lt, Bool, true, false, not, ◌&&◌}
 use Rattle.std.specs.Prelude.{List, [], ◌∷◌, length}
-use Rattle.std.specs.Prelude.{Option, Some, None, Result, Ok, Err}
+use Rattle.std.specs.Prelude.{Option, Some, None, option_and_then, Result, Ok, Err}
 use Rattle.trace_text.specs.declared.fault.TextFault.{TextFault}
 use Rattle.trace_text.specs.declared.line.Line.{Line}
 use Rattle.trace_text.specs.declared.line.Line.TheVariants as lines
@@ -12,11 +12,13 @@ use Rattle.trace_acts.specs.declared.halt.Kind.TheVariants as kinds
 use Rattle.trace_acts.specs.Names.{names_of, scis_of, is_in}
 use Rattle.trace_acts.specs.Kinds.{kind_of_fault, is_allowed, or_else, where_, first_of}
 use Rattle.lan_schedule.specs.declared.deed.Deed.{Deed}
-use Rattle.lan_schedule.specs.declared.deed.Deed.TheVariants as deeds
+use Rattle.lan_schedule.specs.declared.deed.Named.{Named}
+use Rattle.lan_schedule.specs.declared.deed.Named.TheVariants as named
 use Rattle.lan_schedule.specs.Races.{Phase, Apart, Bursting, Controlling, Racing, Burst, Numbered}
 use Rattle.lan_schedule.specs.Races.{workers_at}
 use Rattle.lan_schedule.specs.World.{World}
-use Rattle.lan_schedule.specs.Deeds.{burst_of, deed_of, may_control}
+use Rattle.lan_schedule.specs.Deeds.{burst_of, deed_of, frames_named, may_control, started}
+use Rattle.lan_schedule.specs.Deeds.{stations_named}
 
 -- ---- order
 
@@ -53,32 +55,25 @@ no_frame number frames = where_ (not (is_number number frames)) kinds.FrameUnkno
 abbrev pub no_station : ℕ → List (List ℕ) → Option Kind
 no_station s names = where_ (not (nat_lt s (length names))) kinds.NameUnknown
 
+-- what is wrong with the first that is wrong of those that a line names
+abbrev pub first_wrong : (ℕ → Option Kind) → Named ℕ → Option Kind
+first_wrong why named.Nothing = None
+first_wrong why (named.One x) = why x
+first_wrong why (named.Two x y) = or_else (why x) (why y)
+
 -- what is wrong with the frames of a deed, where the air has so many
 abbrev pub wrong_frame : Deed → ℕ → Option Kind
-wrong_frame (deeds.Deliver frame s) frames = no_frame frame frames
-wrong_frame (deeds.Feed first last s) frames = or_else (no_frame first frames) (no_frame last frames)
-wrong_frame (deeds.Spread frame) frames = no_frame frame frames
-wrong_frame (deeds.Lose frame) frames = no_frame frame frames
-wrong_frame _ frames = None
+wrong_frame deed frames = first_wrong (λ number. no_frame number frames) (frames_named deed)
 
 -- a station that is to start has a name or an SCI that another has
 abbrev pub taken : Deed → List (List ℕ) → List (List ℕ) → Option Kind
-taken (deeds.Start name sci priority) names scis =
-    or_else (where_ (is_in name names) kinds.NameTaken)
-    (where_ (is_in sci.0 scis) kinds.SciTaken)
-taken _ names scis = None
+taken deed names scis = option_and_then (λ new.
+    or_else (where_ (is_in new.0 names) kinds.NameTaken)
+    (where_ (is_in new.1.0 scis) kinds.SciTaken)) (started deed)
 
 -- what is wrong with the stations of a deed
 abbrev pub wrong_station : Deed → List (List ℕ) → Option Kind
-wrong_station (deeds.TickOne s ticks) names = no_station s names
-wrong_station (deeds.Deliver frame s) names = no_station s names
-wrong_station (deeds.Feed first last s) names = no_station s names
-wrong_station (deeds.Cut from to) names = or_else (no_station from names) (no_station to names)
-wrong_station (deeds.Mend from to) names = or_else (no_station from names) (no_station to names)
-wrong_station (deeds.Restart s) names = no_station s names
-wrong_station (deeds.Send s user) names = no_station s names
-wrong_station (deeds.Inject s octets) names = no_station s names
-wrong_station _ names = None
+wrong_station deed names = first_wrong (λ s. no_station s names) (stations_named deed)
 
 -- what is wrong with a deed outside a race, by the words of its line from the left, where these are
 -- the names and the SCIs of the stations, and how many frames the air has

@@ -10,6 +10,7 @@ mod keeping;
 mod laws;
 mod moves;
 mod phase;
+mod places;
 mod race;
 mod recorder;
 mod refusals;

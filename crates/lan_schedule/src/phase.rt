@@ -9,7 +9,7 @@ ghost use Rattle.trace_acts.specs.declared.halt.Halt.{Halt};
 ghost use Rattle.trace_acts.specs.Kinds.{first_of};
 ghost use Rattle.lan_schedule.specs.World.{World};
 ghost use Rattle.lan_schedule.specs.Races.{Bursting, Controlling, workers_at};
-ghost use Rattle.lan_schedule.specs.Deeds.{IsInRange, is_control};
+ghost use Rattle.lan_schedule.specs.Deeds.{IsInRange};
 ghost use Rattle.lan_schedule.specs.Kinds.{too_many};
 ghost use Rattle.lan_schedule.specs.Ends.{IsReached};
 ghost use Rattle.lan_schedule.specs.Stages.{StandsFor};
@@ -316,18 +316,8 @@ fn refused_control(deed: &Deed, control: &[Numbered], stage: &Stage) -> Option<K
     ensures { result ≡ refused_control deed.now control.now stage.now.lan.names }
 {
     unless_allowed(
-        is_control(deed) && control.len() < MAX_CONTROL,
+        deed.is_control() && control.len() < MAX_CONTROL,
         stage.wrong_station(deed),
-    )
-}
-
-/// Whether a deed may be control's.
-fn is_control(deed: &Deed) -> bool
-    ensures { result ≡ is_control deed.now }
-{
-    !matches!(
-        deed,
-        Deed::Start { .. } | Deed::Feed { .. } | Deed::Send { .. }
     )
 }
 

@@ -15,9 +15,9 @@ ghost use Rattle.lan_schedule.specs.Ends.{IsReached};
 ghost use Rattle.lan_schedule.specs.inside.Phased.{Resolves};
 ghost use Rattle.lan_schedule.specs.Stages.{StandsFor};
 
-use crate::deed::Deed;
+use crate::deed::{Deed, Named};
 use crate::stage::Stage;
-use lan_base::{Name, Sci, UserFrame};
+use lan_base::{Name, Sci};
 use trace_acts::{Kind, is_named};
 use trace_text::Line;
 
@@ -45,58 +45,7 @@ impl Stage {
             → result ≡ deed_in line self.now.lan.names }
         ensures ranges { IfSome result IsInRange }
     {
-        Some(match line {
-            Line::Station {
-                name,
-                sci,
-                priority,
-            } => Deed::Start {
-                name,
-                sci,
-                priority,
-            },
-            Line::Tick { rounds } => Deed::Tick { rounds },
-            Line::TickOne { name, ticks } => Deed::TickOne {
-                station: self.place(&name),
-                ticks,
-            },
-            Line::Flow { rounds } => Deed::Flow { rounds },
-            Line::Deliver { frame, name } => Deed::Deliver {
-                frame,
-                station: self.place(&name),
-            },
-            Line::Feed { first, last, name } => Deed::Feed {
-                first,
-                last,
-                station: self.place(&name),
-            },
-            Line::Spread { frame } => Deed::Spread { frame },
-            Line::Lose { frame } => Deed::Lose { frame },
-            Line::Cut { from, to } => Deed::Cut {
-                from: self.place(&from),
-                to: self.place(&to),
-            },
-            Line::Mend { from, to } => Deed::Mend {
-                from: self.place(&from),
-                to: self.place(&to),
-            },
-            Line::Restart { name } => Deed::Restart {
-                station: self.place(&name),
-            },
-            Line::Send {
-                name,
-                destination,
-                body,
-            } => Deed::Send {
-                station: self.place(&name),
-                user: UserFrame { destination, body },
-            },
-            Line::Inject { name, octets } => Deed::Inject {
-                station: self.place(&name),
-                octets,
-            },
-            _ => return None,
-        })
+        Deed::of(line, self.lan.names())
     }
 
     // ---- what is wrong with a deed
@@ -115,12 +64,10 @@ impl Stage {
     pub fn wrong_frame(&self, deed: &Deed) -> Option<Kind>
         ensures { result ≡ wrong_frame deed.now (length self.now.frames.frames) }
     {
-        match deed {
-            Deed::Deliver { frame, .. } | Deed::Spread { frame } | Deed::Lose { frame } => {
-                self.no_frame(*frame)
-            }
-            Deed::Feed { first, last, .. } => self.no_frame(*first).or(self.no_frame(*last)),
-            _ => None,
+        match deed.frames() {
+            Named::Nothing => None,
+            Named::One(frame) => self.no_frame(frame),
+            Named::Two(first, last) => self.no_frame(first).or(self.no_frame(last)),
         }
     }
 
@@ -129,27 +76,18 @@ impl Stage {
         ensures { result
             ≡ taken deed.now self.now.lan.names (map (λ sci. sci.0) (scis_in self.now.lan)) }
     {
-        match deed {
-            Deed::Start { name, sci, .. } => self.is_taken(name, sci),
-            _ => None,
-        }
+        let (name, sci) = deed.started()?;
+        self.is_taken(&name, &sci)
     }
 
     /// What is wrong with its stations.
     pub fn wrong_station(&self, deed: &Deed) -> Option<Kind>
         ensures { result ≡ wrong_station deed.now self.now.lan.names }
     {
-        match deed {
-            Deed::TickOne { station, .. }
-            | Deed::Deliver { station, .. }
-            | Deed::Feed { station, .. }
-            | Deed::Restart { station }
-            | Deed::Send { station, .. }
-            | Deed::Inject { station, .. } => self.no_station(*station),
-            Deed::Cut { from, to } | Deed::Mend { from, to } => {
-                self.no_station(*from).or(self.no_station(*to))
-            }
-            _ => None,
+        match deed.stations() {
+            Named::Nothing => None,
+            Named::One(station) => self.no_station(station),
+            Named::Two(from, to) => self.no_station(from).or(self.no_station(to)),
         }
     }
 

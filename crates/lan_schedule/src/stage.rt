@@ -1,10 +1,8 @@
 //! A group at work: the lines after the first station are performed on it.
 
-ghost use Rattle.std.specs.Prelude.{◌≡◌, ◌==◌, ◌<◌, ◌≤◌, ◌+◌, ◌^◌, ◌++◌, true, is_some, nat_eq, length, map};
+ghost use Rattle.std.specs.Prelude.{◌≡◌, ◌==◌, ◌<◌, ◌≤◌, ◌+◌, ◌^◌, ◌++◌, true, is_some, length, map};
 ghost use Rattle.std.specs.Prelude.{◌⊎◌, OnOk, OnErr, IfOk, IfErr, List, [], false, option_map};
-ghost use Rattle.std.specs.List.{position_or_len};
 ghost use Rattle.std.specs.Option.{option_copied};
-ghost use Rattle.std.specs.Cmp.Lexicographic.{pointwise};
 ghost use Rattle.lan_base.specs.Name.{IsName};
 ghost use Rattle.lan_core.specs.Types.{IsTyped};
 ghost use Rattle.gcm_frames.specs.Protected.{IsSci};
@@ -16,7 +14,7 @@ ghost use Rattle.trace_acts.specs.declared.halt.Halt.{Halt};
 ghost use Rattle.mka_kdf.specs.Kdf.{HasWrongLength};
 ghost use Rattle.trace_acts.specs.Places.{is_race};
 ghost use Rattle.trace_acts.specs.Settings.{settings_of as chosen_settings};
-ghost use Rattle.lan_schedule.specs.World.{World, mark};
+ghost use Rattle.lan_schedule.specs.World.{World, mark, place_in};
 ghost use Rattle.lan_schedule.specs.Sound.{IsTidy};
 ghost use Rattle.lan_schedule.specs.Acts.{happen, seq, unless};
 ghost use Rattle.lan_schedule.specs.inside.Phased.{act_apart};
@@ -38,6 +36,7 @@ ghost use Rattle.lan_schedule.specs.inside.Staged.{Changed, IsOpening};
 
 use crate::deed::Deed;
 use crate::frames::Frames;
+use crate::places::{few, place};
 use crate::recorder::Recorder;
 use crate::words::Words;
 use fact_tally::Tally;
@@ -49,7 +48,7 @@ use rx_slots::Checked;
 use station_words::{law_few_claims_spend_no_words, law_words_keep_a_run_thrifty};
 use std::alloc::{AllocError, Global};
 use std::thread::Threads;
-use trace_acts::{Choices, Halt, Kind, Links, Supply, halt_of, position, settings_of, supply_of};
+use trace_acts::{Choices, Halt, Kind, Links, Supply, halt_of, settings_of, supply_of};
 use trace_text::Line;
 use worker_races::merge::Step;
 use worker_races::{law_an_event_tells_the_words, law_control_goes_on};
@@ -272,9 +271,9 @@ impl Stage {
     /// The place of the station of a name; where there is none, the count of stations.
     pub fn place(&self, name: &Name) -> u8
         ensures { length self.now.lan.names ≤ 255
-            → result ≡ position_or_len (pointwise nat_eq name.now) self.now.lan.names }
+            → result ≡ place_in name.now self.now.lan.names }
     {
-        few(position(self.lan.names(), name))
+        place(self.lan.names(), name)
     }
 
     // ---- lines
@@ -475,13 +474,6 @@ fn group_of(alloc: Global, settings: Settings, line: u32) -> Result<Lan, Halt>
             kind: Kind::Order,
         }),
     }
-}
-
-/// A count or a place of stations, of which there are fewer than 256.
-fn few(count: usize) -> u8
-    ensures { count ≤ 255 → result ≡ count }
-{
-    u8::try_from(count).unwrap_or(u8::MAX)
 }
 
 /// The station of an event; a start, a claim and an emission have none here.
