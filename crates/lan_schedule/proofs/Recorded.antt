@@ -68,7 +68,7 @@ pub looked-apart : (mark : Mark) (w : World) (stage : Stage) → is_some stage.s
 looked-apart mark w stage none = looked-none mark w stage.words (steps_of stage)
     (same-some (λ steps. steps.items) stage.steps ∙ none)
 
--- a line that was refused leaves all, in the midst of a race only for its frame
+-- a line that was refused leaves all
 leaves-by : (stop : Bool) (mark : Mark) (w : World) (stage : Stage) → StandsSince mark w stage
     → (stop ≡ true → HasLooked mark w stage.words (steps_of stage)) → LeavesBy stop mark w stage
 leaves-by true mark w stage since looked = record {

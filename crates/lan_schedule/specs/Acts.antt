@@ -11,7 +11,7 @@ use Rattle.lan_core.specs.Lives.{transmitting_at}
 use Rattle.lan_core.specs.Expected.{claim_fact}
 use Rattle.trace_acts.specs.declared.halt.Halt.{Halt}
 use Rattle.trace_acts.specs.declared.halt.Halt.TheVariants as halts
-use Rattle.trace_acts.specs.declared.halt.Kind.TheVariants.{FrameUnknown}
+use Rattle.trace_acts.specs.declared.halt.Kind.TheVariants.{DrawsSpent}
 use Rattle.trace_acts.specs.Acts as acts
 use Rattle.trace_acts.specs.Ways as ways
 pub use Rattle.trace_acts.specs.Acts.{nothing, refuse, exceed, happen, change, seq, look, race}
@@ -107,9 +107,10 @@ emitting (suc count) w = and_then (shown w Emit (answer w Emit)) (λ v. emitting
 abbrev pub emitting_all : World → World → Course
 emitting_all v w = emitting (count_numbered (claims_in (woven_in v.kept.chances))) w
 
--- whether a group stopped: else a line of control was refused
+-- whether a group stopped: a line that was refused is no stop of the group, but where draws were spent
 abbrev pub is_stop : Halt → Bool
-is_stop (halts.Trace line FrameUnknown) = false
+is_stop (halts.Trace line DrawsSpent) = true
+is_stop (halts.Trace line _) = false
 is_stop _ = true
 
 abbrev pub ends_with : Halt → Course → Course

@@ -514,18 +514,14 @@ fn is_memory(came: Result<(), Halt>) -> bool
     }
 }
 
-/// Whether a group stopped: it did where control ended early, unless a line was refused.
+/// Whether a group stopped: it did where control ended early, unless a line was refused, but for
+/// want of draws.
 fn is_stop(came: Result<(), Halt>) -> bool
     ensures { result ≡ has_stopped came }
 {
     match came {
         Ok(()) => false,
-        Err(
-            Halt::Trace {
-                kind: Kind::FrameUnknown,
-                ..
-            },
-        ) => false,
+        Err(Halt::Trace { kind, .. }) => matches!(kind, Kind::DrawsSpent),
         Err(_) => true,
     }
 }
