@@ -61,6 +61,7 @@ mod Performing
 mod Commanding
 mod Replaying
 mod RunsRaces
+mod Ending
 mod Closing
 mod Stopping
 mod Opening

@@ -7,7 +7,7 @@
 -- is told the reports. What lines choose and name, the draws and the links stand in `trace_acts`.
 -- The files stand in this order: what races are, what lines have made, what can be performed, what a
 -- line is, which line is refused, what a line performs, what is sound, what is told, what a call did of an act,
--- what slot words show, and what a race is woven of.
+-- what slot words show, what a race is woven of, and what a call promises.
 pub mod Races
 pub mod World
 pub mod Numbers
@@ -23,4 +23,5 @@ pub mod Stages
 pub mod Standing
 pub mod Shown
 pub mod Woven
+pub mod Calls
 pub mod inside

@@ -1,6 +1,6 @@
 //! A replay performs the lines of a trace, one after the other.
 
-ghost use Rattle.std.specs.Prelude.{◌≡◌, [], Some, None, Ok, Err, IfErr};
+ghost use Rattle.std.specs.Prelude.{◌≡◌, [], Some, None, Ok, Err, IfErr, OnOk};
 ghost use Rattle.std.specs.Prelude.{List, Option, is_some, true};
 ghost use Rattle.std.specs.Prelude.{false, ◌+◌};
 ghost use Rattle.lan_core.specs.Run.{facts_of};
@@ -20,6 +20,8 @@ ghost use Rattle.lan_schedule.specs.Ends.{moment};
 ghost use Rattle.lan_schedule.specs.Standing.{StandsFor, Counts, Does, Closes, phase_of};
 ghost use Rattle.lan_schedule.specs.Shown.{words_of};
 ghost use Rattle.lan_schedule.specs.Woven.{RunsRace, is_controlling, race_in};
+ghost use Rattle.lan_schedule.specs.Calls.{KeepsHalt, Performs};
+ghost use Rattle.lan_schedule.specs.inside.Halted.{halted_by};
 
 use crate::phase::Phase;
 use crate::race::run_race;
@@ -94,25 +96,14 @@ impl Replay {
         gate: &G,
     ) -> Result<(), Halt>
         requires { IsInForm line }
-        ensures does { Does R.Took R.Broke (numbered number line)
+        ensures performs { Performs R.Took R.Broke (line ≡ lines.End) (at_line number)
+            (numbered number line)
             (moment self.old outlet.old) (moment self.new outlet.new) result }
-        // The end of a race: what control and the workers did is woven into the run.
-        ensures race { line ≡ lines.End
-            → RunsRace R.Took R.Broke (at_line number) (numbered number line)
-            (moment self.old outlet.old) (moment self.new outlet.new) result }
-        ensures seats { NoMoreOut (words_of self.old) (words_of self.new) }
-        ensures halts { IfErr result (λ halt. self.new.halted ≡ Some halt) }
-        ensures again { (halt : Halt) → self.old.halted ≡ Some halt
-            → (result ≡ Err halt) × (self.new ≡ self.old) × (outlet.new ≡ outlet.old) }
+        ensures keeps { KeepsHalt (moment self.old outlet.old) (moment self.new outlet.new) result }
     {
-        if let Some(halt) = self.halted {
-            return Err(halt);
-        }
+        self.going()?;
         let outcome = self.perform_line(rt, number, line, recorder, outlet, gate);
-        if let Err(halt) = outcome {
-            self.halted = Some(halt);
-        }
-        outcome
+        self.ended(outcome)
     }
 
     /// Performs a text without its line ending, as the next line, and tells what each event shows
@@ -126,24 +117,14 @@ impl Replay {
         outlet: &mut K,
         gate: &G,
     ) -> Result<(), Halt>
-        ensures does { Does R.Took R.Broke (performed text.now)
+        ensures performs { Performs R.Took R.Broke (line_in text.now ≡ Ok (Some lines.End))
+            (λ w. at_line (line_after w.kept.line) w) (performed text.now)
             (moment self.old outlet.old) (moment self.new outlet.new) result }
-        ensures race { line_in text.now ≡ Ok (Some lines.End)
-            → RunsRace R.Took R.Broke (λ w. at_line (line_after w.kept.line) w) (performed text.now)
-            (moment self.old outlet.old) (moment self.new outlet.new) result }
-        ensures seats { NoMoreOut (words_of self.old) (words_of self.new) }
-        ensures halts { IfErr result (λ halt. self.new.halted ≡ Some halt) }
-        ensures again { (halt : Halt) → self.old.halted ≡ Some halt
-            → (result ≡ Err halt) × (self.new ≡ self.old) × (outlet.new ≡ outlet.old) }
+        ensures keeps { KeepsHalt (moment self.old outlet.old) (moment self.new outlet.new) result }
     {
-        if let Some(halt) = self.halted {
-            return Err(halt);
-        }
+        self.going()?;
         let outcome = self.perform_text(rt, text, recorder, outlet, gate);
-        if let Err(halt) = outcome {
-            self.halted = Some(halt);
-        }
-        outcome
+        self.ended(outcome)
     }
 
     /// Runs the race that is kept, as its end does, whose line has the number of the last one: control's
@@ -162,21 +143,14 @@ impl Replay {
         ensures none { is_controlling (phase_of self.old.phase) ≡ false → self.old.halted ≡ None
             → (result ≡ Ok tt) × (self.new ≡ self.old) × (outlet.new ≡ outlet.old) }
         ensures seats { NoMoreOut (words_of self.old) (words_of self.new) }
-        ensures halts { IfErr result (λ halt. self.new.halted ≡ Some halt) }
-        ensures again { (halt : Halt) → self.old.halted ≡ Some halt
-            → (result ≡ Err halt) × (self.new ≡ self.old) × (outlet.new ≡ outlet.old) }
+        ensures keeps { KeepsHalt (moment self.old outlet.old) (moment self.new outlet.new) result }
     {
-        if let Some(halt) = self.halted {
-            return Err(halt);
-        }
+        self.going()?;
         if !self.phase.controls() {
             return Ok(());
         }
         let outcome = self.run_kept(rt, recorder, outlet, gate);
-        if let Err(halt) = outcome {
-            self.halted = Some(halt);
-        }
-        outcome
+        self.ended(outcome)
     }
 
     /// Says whether the trace may end here: not inside a race.
@@ -184,9 +158,7 @@ impl Replay {
         ensures closes { (w : World) → StandsFor w self.now → Closes w result }
         ensures again { (halt : Halt) → self.now.halted ≡ Some halt → result ≡ Err halt }
     {
-        if let Some(halt) = self.halted {
-            return Err(halt);
-        }
+        self.going()?;
         if !self.phase.is_inside() {
             return Ok(());
         }
@@ -194,6 +166,28 @@ impl Replay {
             line: self.line().saturating_add(1),
             kind: Kind::NoEnd,
         })
+    }
+
+    /// Answers the halt again, if there was one.
+    fn going(&self) -> Result<(), Halt>
+        ensures goes { OnOk result (self.now.halted ≡ None) }
+        ensures halted { IfErr result (λ halt. self.now.halted ≡ Some halt) }
+    {
+        match self.halted {
+            Some(halt) => Err(halt),
+            None => Ok(()),
+        }
+    }
+
+    /// A call ended so: an error halts the replay.
+    fn ended(&mut self, outcome: Result<(), Halt>) -> Result<(), Halt>
+        ensures same { result ≡ outcome }
+        ensures left { self.new ≡ halted_by outcome self.old }
+    {
+        if let Err(halt) = outcome {
+            self.halted = Some(halt);
+        }
+        outcome
     }
 
     /// Performs a text as the next line.
@@ -205,12 +199,9 @@ impl Replay {
         outlet: &mut K,
         gate: &G,
     ) -> Result<(), Halt>
-        ensures does { Does R.Took R.Broke (performed text.now)
+        ensures { Performs R.Took R.Broke (line_in text.now ≡ Ok (Some lines.End))
+            (λ w. at_line (line_after w.kept.line) w) (performed text.now)
             (moment self.old outlet.old) (moment self.new outlet.new) result }
-        ensures race { line_in text.now ≡ Ok (Some lines.End)
-            → RunsRace R.Took R.Broke (λ w. at_line (line_after w.kept.line) w) (performed text.now)
-            (moment self.old outlet.old) (moment self.new outlet.new) result }
-        ensures seats { NoMoreOut (words_of self.old) (words_of self.new) }
     {
         let number = self.line().saturating_add(1);
         match read_line(self.alloc, text) {
@@ -238,12 +229,8 @@ impl Replay {
         gate: &G,
     ) -> Result<(), Halt>
         requires { IsInForm line }
-        ensures does { Does R.Took R.Broke (numbered number line)
+        ensures { Performs R.Took R.Broke (line ≡ lines.End) (at_line number) (numbered number line)
             (moment self.old outlet.old) (moment self.new outlet.new) result }
-        ensures race { line ≡ lines.End
-            → RunsRace R.Took R.Broke (at_line number) (numbered number line)
-            (moment self.old outlet.old) (moment self.new outlet.new) result }
-        ensures seats { NoMoreOut (words_of self.old) (words_of self.new) }
     {
         self.begin_line(number);
         self.perform(rt, line, recorder, outlet, gate)
@@ -281,11 +268,8 @@ impl Replay {
         gate: &G,
     ) -> Result<(), Halt>
         requires { IsInForm line }
-        ensures does { Does R.Took R.Broke (act_of line)
+        ensures { Performs R.Took R.Broke (line ≡ lines.End) (λ w. w) (act_of line)
             (moment self.old outlet.old) (moment self.new outlet.new) result }
-        ensures race { line ≡ lines.End → RunsRace R.Took R.Broke (λ w. w) (act_of line)
-            (moment self.old outlet.old) (moment self.new outlet.new) result }
-        ensures seats { NoMoreOut (words_of self.old) (words_of self.new) }
     {
         if self.phase.is_end(&line) {
             return self.run_kept(rt, recorder, outlet, gate);

@@ -5,15 +5,13 @@ use Rattle.lan_schedule.proofs.RunsRaces.{runs-numbered}
 use Rattle.lan_schedule.proofs.SeatsBack.{same-out}
 use Rattle.lan_schedule.proofs.commands.Replay.perform_line.Goals as goal
 
-pub returns-clause-does : goal.returns-clause-does
-returns-clause-does g c =
-    numbered-does c.args.number (act_of c.args.line) _ _ _ _ c.begin_line.ensures.stands refl
-    c.perform.ensures.does
-
-pub returns-clause-race : goal.returns-clause-race
-returns-clause-race g c = λ ends.
-    runs-numbered c.args.number (act_of c.args.line) _ _ _ _ c.begin_line.ensures.stands refl
-    c.begin_line.ensures.words (c.perform.ensures.race ends)
-
-pub returns-clause-seats : goal.returns-clause-seats
-returns-clause-seats g c = same-out _ _ _ c.begin_line.ensures.words c.perform.ensures.seats
+pub returns : goal.returns
+returns g c =
+    let act = act_of c.args.line in
+    let begins = c.begin_line.ensures in
+    let performed = c.perform.ensures in record {
+      does = numbered-does c.args.number act _ _ _ _ begins.stands refl performed.does;
+      race = λ end. runs-numbered c.args.number act _ _ _ _ begins.stands refl begins.words
+          (performed.race end);
+      seats = same-out _ _ _ begins.words performed.seats;
+    }

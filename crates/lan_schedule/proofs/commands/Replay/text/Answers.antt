@@ -1,12 +1,22 @@
-use Rattle.std.proofs.Common.{refl}
-use Rattle.lan_schedule.proofs.Replaying.{halted-does}
-use Rattle.lan_schedule.proofs.RunsRaces.{runs-halted}
+use Rattle.lan_schedule.specs.Ends.{moment}
+use Rattle.lan_schedule.proofs.Ending.{ended-keeps, ended-performs, halted-keeps, halted-performs}
 use Rattle.lan_schedule.proofs.commands.Replay.text.Goals as goal
 
-pub returns-in-Err-clause-does : goal.returns-in-Err-clause-does
-returns-in-Err-clause-does g c =
-    halted-does _ _ _ _ _ c.in-Err.halt (λ v tally. tally) c.in-Err.ensures.does
+pub returns-in_err-going-clause-performs : goal.returns-in_err-going-clause-performs
+returns-in_err-going-clause-performs g c = halted-performs _ _ _
+    (moment c.args.self.now c.args.outlet.now) _ _ c.in_err-going.ensures.halted
 
-pub returns-in-Err-clause-race : goal.returns-in-Err-clause-race
-returns-in-Err-clause-race g c = λ end.
-    runs-halted _ _ _ _ _ _ c.in-Err.halt (λ v tally. tally) refl (c.in-Err.ensures.race end)
+pub returns-in_err-going-clause-keeps : goal.returns-in_err-going-clause-keeps
+returns-in_err-going-clause-keeps g c = halted-keeps (moment c.args.self.now c.args.outlet.now) _ _
+    c.in_err-going.ensures.halted c.from_residual.ensures.1
+
+pub returns-clause-performs : goal.returns-clause-performs
+returns-clause-performs g c = rw (c.ended.ensures.same, c.ended.ensures.left)
+    (ended-performs _ _ _ _ (moment c.perform_text-outcome.new.self c.perform_text-outcome.new.outlet)
+    _ c.perform_text-outcome.ensures)
+
+pub returns-clause-keeps : goal.returns-clause-keeps
+returns-clause-keeps g c = rw (c.ended.ensures.same, c.ended.ensures.left)
+    (ended-keeps (moment c.args.self.now c.args.outlet.now)
+    (moment c.perform_text-outcome.new.self c.perform_text-outcome.new.outlet)
+    c.perform_text-outcome.result c.in_ok-going.ensures.goes)
