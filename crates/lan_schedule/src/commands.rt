@@ -1,8 +1,7 @@
 //! A replay performs the lines of a trace, one after the other.
 
 ghost use Rattle.std.specs.Prelude.{◌≡◌, [], Some, None, Ok, Err, IfErr, OnOk};
-ghost use Rattle.std.specs.Prelude.{List, Option, is_some, true};
-ghost use Rattle.std.specs.Prelude.{false, ◌+◌};
+ghost use Rattle.std.specs.Prelude.{List, true, false};
 ghost use Rattle.lan_core.specs.Run.{facts_of};
 ghost use Rattle.fact_tally.specs.Summary.{counts};
 ghost use Rattle.station_words.specs.Seats.{NoMoreOut};
@@ -28,7 +27,6 @@ use crate::race::run_race;
 use crate::recorder::{Preparing, Recorder};
 use crate::stage::Stage;
 use fact_tally::Tally;
-use lan_base::{Name, Sci};
 use packet_claims::Gate;
 use std::alloc::Global;
 use std::mem::replace;
@@ -314,7 +312,8 @@ impl Replay {
         outcome
     }
 
-    /// Performs a line before the first station, which isn't refused.
+    /// Performs a line before the first station, which isn't refused: that station starts, or a choice is
+    /// made.
     fn prepare<K, R: Recorder<K>, G: Gate>(
         &mut self,
         line: &Line,
@@ -334,34 +333,16 @@ impl Replay {
                 name,
                 sci,
                 priority,
-            } => self.open(*name, *sci, *priority, recorder, outlet, gate),
+            } => {
+                let mut stage = Stage::new(self.alloc, &self.chosen, self.line)?;
+                let outcome = stage.start(*name, *sci, *priority, recorder, outlet, gate);
+                put(&mut self.stage, stage);
+                outcome
+            }
             _ => {
                 choose(self.alloc, &mut self.chosen, line)?;
                 Ok(())
             }
         }
-    }
-
-    /// The first station starts.
-    fn open<K, R: Recorder<K>, G: Gate>(
-        &mut self,
-        name: Name,
-        sci: Sci,
-        priority: u32,
-        recorder: &mut R,
-        outlet: &mut K,
-        gate: &G,
-    ) -> Result<(), Halt>
-        requires form { IsInForm (lines.Station name sci priority) }
-        requires unbegun { self.old.stage ≡ None }
-        requires keyed { is_some self.old.chosen.group ≡ true }
-        ensures does { Does R.Took R.Broke (look (λ w. deed (lines.Station name sci priority) w))
-            (moment self.old outlet.old) (moment self.new outlet.new) result }
-        ensures seats { NoMoreOut (words_of self.old) (words_of self.new) }
-    {
-        let mut stage = Stage::new(self.alloc, &self.chosen, self.line)?;
-        let outcome = stage.start(name, sci, priority, recorder, outlet, gate);
-        put(&mut self.stage, stage);
-        outcome
     }
 }

@@ -3,8 +3,7 @@
 
 ghost use Rattle.std.specs.Prelude.{◌≡◌, ◌<◌, ◌+◌, ◌*◌, ◌^◌, [], not, nat_lt, true, false, map};
 ghost use Rattle.std.specs.Prelude.{List, IfOk, IfErr, IfSome, OnOk, OnErr, None, option_map};
-ghost use Rattle.std.specs.Prelude.{All, IfNone, MatchResult, slice_get, vec_capacity};
-ghost use Rattle.std.specs.Option.{option_copied};
+ghost use Rattle.std.specs.Prelude.{All, IfNone, MatchResult, vec_capacity};
 ghost use Rattle.data_workers.specs.Workers.{HasTable};
 ghost use Rattle.lan_core.specs.declared.event.Event.TheVariants as events;
 ghost use Rattle.association_slots.specs.Views.{ControlAt};
