@@ -10,7 +10,7 @@ use Rattle.data_workers.specs.declared.entry.Entry.{Entry}
 use Rattle.data_workers.specs.declared.entry.Entry.TheVariants.{Taken, Refused}
 use Rattle.data_workers.specs.declared.sender.Sender.{Sender}
 use Rattle.data_workers.specs.Logs.{IsEntry}
-use Rattle.data_workers.specs.Workers.{AreDone, IsDone, WorkerAt}
+use Rattle.data_workers.specs.Workers.{AreDone, WorkerAt}
 use Rattle.association_slots.specs.declared.view.SeatView.{SeatView}
 use Rattle.lan_core.specs.Run.{Happening}
 use Rattle.worker_races.specs.merge.Merged.{nth_log}
@@ -18,11 +18,11 @@ use Rattle.worker_races.specs.merge.Places.{Attempt}
 use Rattle.worker_races.specs.merge.Steps.{attempt_of, logs_of}
 use Rattle.worker_races.specs.merge.Weaving.{IsWoven}
 use Rattle.worker_races.specs.Senders.{IsNew, jobs_of}
+use Rattle.worker_races.proofs.Public.{first-done, nth-logs, others-done}
 use Rattle.lan_schedule.specs.Races.{Claimed, IsDealt, Worker, claims_in, count_of}
 use Rattle.lan_schedule.specs.Acts.{station_of}
 use Rattle.lan_schedule.specs.Woven.{worker_of}
 use Rattle.lan_schedule.proofs.Dealing.{count-claim, count-log, counted}
-use Rattle.lan_schedule.proofs.PartShown.{nth-logs, nth_of}
 use Rattle.lan_schedule.proofs.WovenPart.{claims_of}
 
 -- ---- all claims are those of the workers
@@ -120,32 +120,21 @@ mapped-range g (x ∷ xs) a at =
     over a i = omega arith
 
 nth-length : (u : ℕ) (ds : List WorkerAt)
-    → length (nth_of u (map (λ (d : WorkerAt). d.log) ds))
+    → length (nth_log u (map (λ (d : WorkerAt). d.log) ds))
     ≡ get_or (map (λ (d : WorkerAt). length d.log) ds) u 0
-unfolding nth_of
 nth-length zero [] = refl
 nth-length (suc u) [] = refl
 nth-length zero (d ∷ ds) = refl
 nth-length (suc u) (d ∷ ds) = nth-length u ds
 
 nth-past : (u : ℕ) (ds : List WorkerAt) → length ds ≤ u
-    → length (nth_of u (map (λ (d : WorkerAt). d.log) ds)) ≡ 0
-unfolding nth_of
+    → length (nth_log u (map (λ (d : WorkerAt). d.log) ds)) ≡ 0
 nth-past zero [] past = refl
 nth-past (suc u) [] past = refl
 nth-past zero (d ∷ ds) past = absurd (omega (arith, past))
 nth-past (suc u) (d ∷ ds) past = nth-past u ds (omega (arith, past))
 
 -- ---- workers that began, and are done
-
-first-done : (w d : WorkerAt) (ws ds : List WorkerAt) → AreDone (w ∷ ws) (d ∷ ds) → IsDone w d
-first-done w d ws ds done = done.each 0 w (omega arith)
-
-others-done : (w d : WorkerAt) (ws ds : List WorkerAt) → AreDone (w ∷ ws) (d ∷ ds) → AreDone ws ds
-others-done w d ws ds done = record {
-  count = (let all = done.count in omega (arith, all));
-  each = λ i x less. done.each (suc i) x (omega (arith, less));
-}
 
 -- as many entries as jobs
 logs-jobs : (ws ds : List WorkerAt) → AreDone ws ds → AllByRecursion IsNew ws
@@ -197,10 +186,10 @@ module _ (base : ℕ) (ws ds : List WorkerAt) (part control : List Happening) (d
   jobs = map (λ (w : Worker). w.jobs) (map worker_of ws)
 
   count-nth : (u : ℕ) → count_of claims u
-      ≡ length (nth_of u (map (λ (d : WorkerAt). d.log) ds))
+      ≡ length (nth_log u (map (λ (d : WorkerAt). d.log) ds))
   count-nth u = count-log base u part control _ woven
       ∙ ap length (nth-logs 0 u (map (λ (d : WorkerAt). d.log) ds))
-      ∙ length-map (nth_of u (map (λ (d : WorkerAt). d.log) ds)) (attempt_of (0 + u))
+      ∙ length-map (nth_log u (map (λ (d : WorkerAt). d.log) ds)) (attempt_of (0 + u))
 
   count-at : (u : ℕ) → count_of claims u ≡ get_or jobs u 0
   count-at u = count-nth u ∙ nth-length u ds

@@ -1,10 +1,10 @@
 -- What the merged events of a race show, by what was kept of control and by the frames of the logs,
 -- is what the part shows that is woven of them.
-use Rattle.std.proofs.Common.{◌≡◌, ◌+◌, ◌-◌, ◌==◌, ℕ, zero, suc, Bool, true, false, cond, List, [], ◌∷◌}
-use Rattle.std.proofs.Common.{◌++◌, map, refl, sym, ap, ◌∙◌, subst, arith, inl, inr}
+use Rattle.std.proofs.Common.{◌≡◌, ◌+◌, ◌-◌, ◌==◌, ℕ, Bool, true, false, cond, List, [], ◌∷◌}
+use Rattle.std.proofs.Common.{◌++◌, map, refl, sym, ap, ◌∙◌, subst, arith}
 use Rattle.std.specs.List.{AllByRecursion, filter}
 use Rattle.std.specs.Prelude.{not}
-use Rattle.std.proofs.lemmas.Bool.{cases_Bool, eqb-true, eqb-false, ne_eqb}
+use Rattle.std.proofs.lemmas.Bool.{eqb-true, ne_eqb}
 use Rattle.lan_base.specs.declared.frame.Protected.{Protected}
 use Rattle.lan_core.specs.declared.event.Event.{Event}
 use Rattle.lan_core.specs.declared.event.Event.TheVariants as events
@@ -17,67 +17,15 @@ use Rattle.data_workers.specs.declared.entry.Entry.{Entry}
 use Rattle.data_workers.specs.declared.entry.Entry.TheVariants.{Taken, Refused}
 use Rattle.worker_races.specs.merge.Merged.{nth_log}
 use Rattle.worker_races.specs.merge.Steps.{attempt_of, counted_from, logs_of}
-use Rattle.worker_races.specs.merge.Taking.{first_of, frame_in, frames_of, left_by, next_entry, rest_of}
+use Rattle.worker_races.specs.merge.Taking.{first_of, frame_in, frames_of, left_by, next_entry}
 use Rattle.worker_races.specs.merge.Taking.{taken_by, without_next}
 use Rattle.worker_races.specs.merge.Weaving.{AreClaimsOf, IsOfLog, IsWoven, is_claim_for}
+use Rattle.worker_races.proofs.Public.{Left, claims_for, next-nth, nth-left, nth-logs, told-front}
 use Rattle.lan_schedule.specs.inside.Weaves.{claimed_by, frames_behind, kept_behind, shown_in}
 use Rattle.lan_schedule.specs.inside.Weaves.{shown_of, without_first}
 use Rattle.lan_schedule.proofs.PartReports.{facts_by}
 
--- ---- logs by their places
-
-unfoldable pub nth_of : ℕ → List (List Entry) → List Entry
-nth_of u [] = []
-nth_of zero (log ∷ logs) = log
-nth_of (suc u) (log ∷ logs) = nth_of u logs
-
-pub nth-logs : (k u : ℕ) (logs : List (List Entry))
-    → nth_log u (logs_of k logs) ≡ map (attempt_of (k + u)) (nth_of u logs)
-unfolding nth_of
-nth-logs k zero [] = refl
-nth-logs k (suc u) [] = refl
-nth-logs k zero (log ∷ logs) = ap (λ n. map (attempt_of n) log) (right k)
-  where
-    right : (k : ℕ) → k ≡ k + 0
-    right k = omega arith
-nth-logs k (suc u) (log ∷ logs) =
-    nth-logs (suc k) u logs ∙ ap (λ n. map (attempt_of n) (nth_of u logs)) (over k u)
-  where
-    over : (k u : ℕ) → suc k + u ≡ k + suc u
-    over k u = omega arith
-
-next-nth : (u : ℕ) (logs : List (List Entry)) → next_entry u logs ≡ first_of (nth_of u logs)
-unfolding nth_of
-next-nth zero [] = refl
-next-nth (suc u) [] = refl
-next-nth zero (log ∷ logs) = refl
-next-nth (suc u) (log ∷ logs) = next-nth u logs
-
-nth-same : (u : ℕ) (logs : List (List Entry))
-    → nth_of u (without_next u logs) ≡ rest_of (nth_of u logs)
-unfolding nth_of
-nth-same zero [] = refl
-nth-same (suc u) [] = refl
-nth-same zero (log ∷ logs) = refl
-nth-same (suc u) (log ∷ logs) = nth-same u logs
-
-nth-other : (u v : ℕ) (logs : List (List Entry)) → (v ≡ u → ⊥)
-    → nth_of v (without_next u logs) ≡ nth_of v logs
-unfolding nth_of
-nth-other zero v [] other = refl
-nth-other (suc u) v [] other = refl
-nth-other zero zero (log ∷ logs) other = absurd (other refl)
-nth-other zero (suc v) (log ∷ logs) other = refl
-nth-other (suc u) zero (log ∷ logs) other = refl
-nth-other (suc u) (suc v) (log ∷ logs) other = nth-other u v logs (λ e. other (ap suc e))
-
 -- ---- one event
-
-heads : {A : Type 0} (a b : A) (xs ys : List A) → a ∷ xs ≡ b ∷ ys → a ≡ b
-heads a b xs ys is = cc is
-
-tails : {A : Type 0} (a b : A) (xs ys : List A) → a ∷ xs ≡ b ∷ ys → xs ≡ ys
-tails a b xs ys is = cc is
 
 -- a claim without a number shows that no key transmits
 abbrev pub IsPlainBy : Event → List Fact → Type 0
@@ -95,47 +43,30 @@ taken-shows : (b : Bool) (s pn : ℕ) (p : Protected) (shown : List Fact)
     × (b ≡ false)
 taken-shows true s pn p shown plain is =
     absurd (let both = sym (plain refl) ∙ is in
-    let first : facts.Unclaimed s NoKey ≡ facts.Claimed p.station p.an p.epoch p.pn =
-    heads _ _ [] [] both in cc first)
+    let first : facts.Unclaimed s NoKey ≡ facts.Claimed p.station p.an p.epoch p.pn = cc both in cc first)
 taken-shows false s pn p shown plain is = (sym is, refl)
 
 module _ (base : ℕ) where
-  -- the claims that are left in a part are those of the logs that are left
-  abbrev Left : List Happening → List (List Entry) → Type 0
-  Left part logs = (u : ℕ) → AreClaimsOf base (map (attempt_of u) (nth_of u logs))
-      (filter (λ h. is_claim_for (base + u + 1) h.event) part)
-
   abbrev after_one : Bool → ℕ → Happening → List Happening → List Happening
-  after_one own u h part = cond own (h ∷ filter (λ h. is_claim_for (base + u + 1) h.event) part)
-      (filter (λ h. is_claim_for (base + u + 1) h.event) part)
+  after_one own u h part = cond own (h ∷ claims_for base u part) (claims_for base u part)
 
   -- behind the next claim of a log
   left-claim : (h : Happening) (part : List Happening) (logs : List (List Entry)) (u : ℕ)
-      (x : Entry) (more : List Entry) → Left (h ∷ part) logs
+      (x : Entry) (more : List Entry) → Left base (h ∷ part) logs
       → ((v : ℕ) → (v ≡ u → ⊥) → is_claim_for (base + v + 1) h.event ≡ false)
-      → nth_of u logs ≡ x ∷ more
-      → AreClaimsOf base (map (attempt_of u) more)
-      (filter (λ h. is_claim_for (base + u + 1) h.event) part)
-      → Left part (without_next u logs)
-  left-claim h part logs u x more claims others at own v = elim (cases_Bool (v == u)) [
-    | inl same ↦ (let e = eqb-true v u same in
-        subst (λ v. AreClaimsOf base (map (attempt_of v) (nth_of v (without_next u logs)))
-        (filter (λ h. is_claim_for (base + v + 1) h.event) part)) (sym e)
-        (subst (λ l. AreClaimsOf base (map (attempt_of u) l)
-        (filter (λ h. is_claim_for (base + u + 1) h.event) part))
-        (sym (nth-same u logs ∙ ap rest_of at)) own))
-    | inr other ↦ (let differ = eqb-false v u other in
-        subst (λ l. AreClaimsOf base (map (attempt_of v) l)
-        (filter (λ h. is_claim_for (base + v + 1) h.event) part)) (sym (nth-other u v logs differ))
-        (subst (λ b. AreClaimsOf base (map (attempt_of v) (nth_of v logs)) (after_one b v h part))
-        (others v differ) (claims v)))
-  ]
+      → nth_log u logs ≡ x ∷ more
+      → AreClaimsOf base (map (attempt_of u) more) (claims_for base u part)
+      → Left base part (without_next u logs)
+  left-claim h part logs u x more claims others at own =
+      nth-left (λ v l. AreClaimsOf base (map (attempt_of v) l) (claims_for base v part)) u x more logs at own
+      (λ v differ. subst (λ b. AreClaimsOf base (map (attempt_of v) (nth_log v logs)) (after_one b v h part))
+      (others v differ) (claims v))
 
   -- behind an event that is no claim
   left-still : (h : Happening) (part : List Happening) (logs : List (List Entry))
-      → Left (h ∷ part) logs → ((n : ℕ) → is_claim_for n h.event ≡ false) → Left part logs
+      → Left base (h ∷ part) logs → ((n : ℕ) → is_claim_for n h.event ≡ false) → Left base part logs
   left-still h part logs claims none u =
-      subst (λ b. AreClaimsOf base (map (attempt_of u) (nth_of u logs)) (after_one b u h part))
+      subst (λ b. AreClaimsOf base (map (attempt_of u) (nth_log u logs)) (after_one b u h part))
       (none (base + u + 1)) (claims u)
 
   -- what is left to be shown
@@ -148,18 +79,15 @@ module _ (base : ℕ) where
 
   pub part-shown : (part : List Happening) (es : List Event) (logs : List (List Entry))
       → map (λ (h : Happening). h.event) part ≡ map (counted_from base) es
-      → AllByRecursion (IsOfLog base) part → AllByRecursion IsPlain part → Left part logs
+      → AllByRecursion (IsOfLog base) part → AllByRecursion IsPlain part → Left base part logs
       → Shows part es logs
   unfolding shown_in frames_of
   part-shown [] [] logs told of plain claims = refl
   part-shown [] (e ∷ es) logs told of plain claims = absurd (cc told)
   part-shown (h ∷ part) [] logs told of plain claims = absurd (cc told)
   part-shown (h ∷ part) (e ∷ es) logs told of plain claims =
-      go e (heads h.event (counted_from base e) (map (λ (x : Happening). x.event) part)
-      (map (counted_from base) es) told)
-      (λ ls left. part-shown part es ls
-      (tails h.event (counted_from base e) (map (λ (x : Happening). x.event) part)
-      (map (counted_from base) es) told) of.1 plain.1 left)
+      let front = told-front base h part e es told in
+      go e front.0 (λ ls left. part-shown part es ls front.1 of.1 plain.1 left)
     where
       Goal : Event → List (List Fact) → List Protected → Type 0
       Goal e kept frames =
@@ -168,7 +96,7 @@ module _ (base : ℕ) where
 
       -- an event that is no claim
       still : (e : Event) → h.event ≡ e
-          → ((ls : List (List Entry)) → Left part ls → Shows part es ls)
+          → ((ls : List (List Entry)) → Left base part ls → Shows part es ls)
           → ((n : ℕ) → is_claim_for n e ≡ false) → is_claim e ≡ false
           → ((kept : List (List Fact)) (frames : List Protected)
           → shown_in es kept frames ≡ facts_by part → Goal e (h.facts ∷ kept) frames)
@@ -183,10 +111,10 @@ module _ (base : ℕ) where
 
       -- a claim for the user frame of a log takes that log's next entry
       takes : (s user pn u : ℕ) → h.event ≡ events.Claim s (base + user) pn
-          → ((ls : List (List Entry)) → Left part ls → Shows part es ls)
+          → ((ls : List (List Entry)) → Left base part ls → Shows part es ls)
           → is_claim_for (base + u + 1) h.event ≡ true
           → ((v : ℕ) → (v ≡ u → ⊥) → is_claim_for (base + v + 1) h.event ≡ false)
-          → (l : List Entry) → nth_of u logs ≡ l
+          → (l : List Entry) → nth_log u logs ≡ l
           → Goal (events.Claim s user pn) (facts_by (without_claims (h ∷ part)))
           (frame_in (first_of l) ++ frames_of es (without_next u logs))
       takes s user pn u ev rest for others l at =
@@ -198,13 +126,13 @@ module _ (base : ℕ) where
           mine : AreClaimsOf base (map (attempt_of u) l)
               (h ∷ filter (λ h. is_claim_for (base + u + 1) h.event) part)
           mine = subst (λ l. AreClaimsOf base (map (attempt_of u) l) (after_one true u h part)) at
-              (subst (λ b. AreClaimsOf base (map (attempt_of u) (nth_of u logs)) (after_one b u h part))
+              (subst (λ b. AreClaimsOf base (map (attempt_of u) (nth_log u logs)) (after_one b u h part))
               for (claims u))
 
           plain-here : (pn == 0) ≡ true → h.facts ≡ facts.Unclaimed s NoKey ∷ []
           plain-here = subst (λ (e : Event). IsPlainBy e h.facts) ev plain.0
 
-          entry : (l : List Entry) → nth_of u logs ≡ l
+          entry : (l : List Entry) → nth_log u logs ≡ l
               → AreClaimsOf base (map (attempt_of u) l)
               (h ∷ filter (λ h. is_claim_for (base + u + 1) h.event) part)
               → Goal (events.Claim s user pn) (facts_by (without_claims part))
@@ -242,7 +170,7 @@ module _ (base : ℕ) where
               behind_if b frames = cond b frames (without_first frames)
 
       go : (e : Event) → h.event ≡ counted_from base e
-          → ((ls : List (List Entry)) → Left part ls → Shows part es ls)
+          → ((ls : List (List Entry)) → Left base part ls → Shows part es ls)
           → Goal e (facts_by (without_claims (h ∷ part))) (taken_by e logs ++ frames_of es (left_by e logs))
       go (events.Claim s user pn) ev rest =
           let own = of.0 (ap is_claim ev) in
@@ -257,7 +185,7 @@ module _ (base : ℕ) where
           (takes s user pn u ev rest own.1
           (λ v differ. ap (is_claim_for (base + v + 1)) ev
           ∙ ne_eqb (base + user) (base + v + 1) (λ e. differ (omega (arith, e, same))))
-          (nth_of u logs) refl))
+          (nth_log u logs) refl))
       go (events.Start name sci priority) ev rest =
           still (events.Start name sci priority) ev rest (λ n. refl) refl
           (λ kept frames later. ap (λ (l : List (List Fact)). h.facts ∷ l) later)
@@ -281,7 +209,7 @@ woven-shown base part steps es logs told woven plain =
     ap (λ (l : List Happening). shown_in es (facts_by l) (frames_of es logs)) (sym woven.control)
     ∙ part-shown base part es logs told woven.no_other plain
     (λ u. subst (λ l. AreClaimsOf base l (filter (λ h. is_claim_for (base + u + 1) h.event) part))
-    (nth-logs 0 u logs ∙ ap (λ n. map (attempt_of n) (nth_of u logs)) (plain_zero u))
+    (nth-logs 0 u logs ∙ ap (λ n. map (attempt_of n) (nth_log u logs)) (plain_zero u))
     (woven.claims u))
   where
     plain_zero : (u : ℕ) → 0 + u ≡ u

@@ -28,6 +28,7 @@ use Rattle.worker_races.specs.Beside.{Race, WereBeside, ans_in, attempts_in, log
 use Rattle.worker_races.specs.Beside.{part_in, pointed_in}
 use Rattle.worker_races.specs.Performed.{happenings}
 use Rattle.worker_races.specs.Senders.{IsNew}
+use Rattle.worker_races.proofs.Public.{told-front}
 use Rattle.lan_schedule.specs.Races.{Chance, Claimed, Shown, Woven, behind_numbers, behind_woven}
 use Rattle.lan_schedule.specs.Races.{woven_in}
 use Rattle.lan_schedule.specs.Sound.{IsNeverSpent}
@@ -75,12 +76,6 @@ rest-same base (events.Restart s) front rest = refl
 rest-same base events.Emit front rest = refl
 rest-same base (events.Inject s octets) front rest = refl
 
-heads : {A : Type 0} (a b : A) (xs ys : List A) → a ∷ xs ≡ b ∷ ys → a ≡ b
-heads a b xs ys is = cc is
-
-tails : {A : Type 0} (a b : A) (xs ys : List A) → a ∷ xs ≡ b ∷ ys → xs ≡ ys
-tails a b xs ys is = cc is
-
 fronts : (base : ℕ) (part : List Happening) (es : List Event)
     → map (λ (h : Happening). h.event) part ≡ map (counted_from base) es
     → (front_of base part ≡ front_of 0 (bare es)) × (rest_of base part ≡ rest_of 0 (bare es))
@@ -88,10 +83,9 @@ fronts base [] [] same = (refl, refl)
 fronts base [] (e ∷ es) same = absurd (cc same)
 fronts base (h ∷ part) [] same = absurd (cc same)
 fronts base (h ∷ part) (e ∷ es) same =
-    let here = heads h.event (counted_from base e) (map (λ (x : Happening). x.event) part)
-    (map (counted_from base) es) same in
-    let later = fronts base part es (tails h.event (counted_from base e)
-    (map (λ (x : Happening). x.event) part) (map (counted_from base) es) same) in (
+    let front = told-front base h part e es same in
+    let here = front.0 in
+    let later = fronts base part es front.1 in (
       ap (λ (f : Event). front_by base f (front_of base part)) here
           ∙ front-same base e (front_of base part)
           ∙ ap (λ (l : List Claimed). front_by 0 e l) later.0,
