@@ -10,12 +10,12 @@ use trace_acts::position;
 pub fn place(names: &[Name], name: &Name) -> u8
     ensures { length names.now ≤ 255 → result ≡ place_in name.now names.now }
 {
-    few(position(names, name))
+    octet_of(position(names, name))
 }
 
-/// A count or a place of stations.
-pub fn few(count: usize) -> u8
-    ensures { count ≤ 255 → result ≡ count }
+/// A number of at most 255, as a priority is, and a count or a place of stations.
+pub fn octet_of(number: usize) -> u8
+    ensures { number ≤ 255 → result ≡ number }
 {
-    u8::try_from(count).unwrap_or(u8::MAX)
+    u8::try_from(number).unwrap_or(u8::MAX)
 }

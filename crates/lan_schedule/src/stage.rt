@@ -36,7 +36,7 @@ ghost use Rattle.lan_schedule.specs.inside.Staged.{Changed, IsOpening};
 
 use crate::deed::Deed;
 use crate::frames::Frames;
-use crate::places::{few, place};
+use crate::places::{octet_of, place};
 use crate::recorder::Recorder;
 use crate::words::Words;
 use fact_tally::Tally;
@@ -265,7 +265,7 @@ impl Stage {
     pub fn count(&self) -> u8
         ensures { length self.now.lan.names ≤ 255 → result ≡ length self.now.lan.names }
     {
-        few(self.lan.names().len())
+        octet_of(self.lan.names().len())
     }
 
     /// The place of the station of a name; where there is none, the count of stations.
@@ -384,7 +384,7 @@ impl Stage {
         let start = Event::Start {
             name,
             sci,
-            priority: few(priority as usize),
+            priority: octet_of(priority as usize),
         };
         self.happen(&start, None, recorder, outlet, gate)
     }

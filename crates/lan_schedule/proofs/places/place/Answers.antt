@@ -7,4 +7,4 @@ pub returns : goal.returns
 returns c = λ few.
     let within = place-within (pointwise nat_eq c.args.name.now) c.args.names.now in
     let is = c.position.ensures in
-    c.few.ensures (omega arith) ∙ is
+    c.octet_of.ensures (omega arith) ∙ is

@@ -8,13 +8,13 @@ use Rattle.lan_schedule.proofs.Sending.{begin-does, same-did}
 use Rattle.lan_schedule.proofs.stage.Stage.start.Goals as goal
 
 pub happen-requires : goal.happen-requires
-happen-requires g c = (c.law_names_are_spelled.ensures, c.requires, c.few.type_inv)
+happen-requires g c = (c.law_names_are_spelled.ensures, c.requires, c.octet_of.type_inv)
 
 pub returns : goal.returns
 returns g c = λ small.
-    same-did (λ (n : ℕ). seq begin (happen (Start c.args.name c.args.sci n))) c.few.result
-    c.args.priority _ _ _ (c.few.ensures small)
-    (then-ok begin (happen (Start c.args.name c.args.sci c.few.result)) _ _ _ _ (begin-does _)
-    (plainly (Start c.args.name c.args.sci c.few.result) _ _ _ (λ w. refl)
+    same-did (λ (n : ℕ). seq begin (happen (Start c.args.name c.args.sci n))) c.octet_of.result
+    c.args.priority _ _ _ (c.octet_of.ensures small)
+    (then-ok begin (happen (Start c.args.name c.args.sci c.octet_of.result)) _ _ _ _ (begin-does _)
+    (plainly (Start c.args.name c.args.sci c.octet_of.result) _ _ _ (λ w. refl)
     (λ raced racing settings run cs says. says)
     (λ settings run. tt) c.happen.ensures))
