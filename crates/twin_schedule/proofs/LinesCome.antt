@@ -2,7 +2,6 @@
 use Rattle.std.proofs.Common.{◌≡◌, ◌<◌, ℕ, Bool, true, false, List, [], ◌∷◌, ◌++◌, length}
 use Rattle.std.proofs.Common.{Option, Some, None, ◌⊎◌, inl, inr, refl, sym, ap, subst, arith}
 use Rattle.std.specs.Prelude.{not, ◌&&◌, nat_eq, Result, Ok, Err}
-use Rattle.std.specs.Option.{is_none}
 use Rattle.std.specs.Cmp.Lexicographic.{pointwise}
 use Rattle.std.proofs.lemmas.List.{length-map}
 use Rattle.lan_base.specs.declared.frame.UserFrame.{UserFrame}
@@ -23,17 +22,18 @@ use Rattle.trace_text.specs.declared.twin.line.RollLine.{RollLine}
 use Rattle.trace_text.specs.declared.twin.line.RollLine.TheVariants.{Plain, Group2, Adopt, Leave}
 use Rattle.trace_text.specs.twin.InForm.{IsInFormRoll}
 use Rattle.trace_text.specs.twin.Reading.{roll_line_in}
+use Rattle.trace_acts.specs.declared.choices.Choices.{Choices}
 use Rattle.trace_acts.specs.declared.choices.Keyed.{Keyed}
 use Rattle.trace_acts.specs.declared.halt.Kind.{Kind}
 use Rattle.trace_acts.specs.declared.halt.Kind.TheVariants as kinds
-use Rattle.trace_acts.specs.Kinds.{where_, unknown, may_list}
+use Rattle.trace_acts.specs.Kinds.{where_, unknown, is_allowed}
 use Rattle.trace_acts.specs.Choosing.{chosen_by}
 use Rattle.trace_acts.specs.Settings.{rule_of, secret_of, settings_of}
 use Rattle.trace_acts.specs.Supply.{draw_at}
 use Rattle.trace_acts.specs.Names.{is_in}
 use Rattle.trace_acts.proofs.Public.{bytes-all, chosen-draws, comes-unless, new-station, not-false}
 use Rattle.trace_acts.proofs.Public.{or-none, place-there}
-use Rattle.trace_acts.proofs.Public.{unbegun-by, user-at-end, where-none}
+use Rattle.trace_acts.proofs.Public.{user-at-end, where-none}
 use Rattle.twin_schedule.specs.World.{World, Kept, pair_of, pair_by, count, names, place, is_out, has_adopted}
 use Rattle.twin_schedule.specs.Acts.{Act, happen, rules}
 use Rattle.twin_schedule.specs.Kinds.{group_of, may_be_second, may_stand, wrong, refusal}
@@ -44,6 +44,7 @@ use Rattle.twin_schedule.specs.Sound.{IsTidy}
 use Rattle.twin_schedule.specs.inside.Choosing.{with_second}
 use Rattle.twin_schedule.specs.inside.Comes.{asks, Comes}
 use Rattle.twin_schedule.proofs.Coming.{comes-flow, comes-rounds, comes-ticks, tidy-same}
+use Rattle.twin_schedule.proofs.Refusing.{chooses-nothing}
 use Rattle.twin_schedule.proofs.Users.{AreLegal, run-more}
 
 -- ---- what a line is not refused for
@@ -86,13 +87,15 @@ tidy-unbegun w kept tidy empty draws = record {
   draws = draws;
 }
 
-chosen-comes : (line : Line) → IsInForm line → (b : Bool) (w : World) → IsTidy w
-    → (not w.kept.begun && b) ≡ true
+-- and behind it nothing is chosen
+chosen-comes : (line : Line) → IsInForm line → (begun : Bool) (w : World) → w.kept.begun ≡ begun
+    → IsTidy w → is_allowed line begun w.kept.chosen ≡ true
     → IsTidy (record w { kept = record w.kept { chosen = chosen_by line w.kept.chosen } })
-chosen-comes line form b w tidy e =
-    let unbegun : w.kept.begun ≡ false = unbegun-by w.kept.begun b e in
-    tidy-unbegun w _ tidy (tidy.waits unbegun)
-    (chosen-draws line form w.kept.chosen tidy.draws)
+chosen-comes line form true w is tidy allowed =
+    subst (λ (chosen : Choices). IsTidy (record w { kept = record w.kept { chosen = chosen } }))
+    (sym (chooses-nothing line w.kept.chosen allowed)) tidy
+chosen-comes line form false w is tidy allowed =
+    tidy-unbegun w _ tidy (tidy.waits is) (chosen-draws line form w.kept.chosen tidy.draws)
 
 -- ---- the second group
 
@@ -158,26 +161,6 @@ over-comes false act w comes = comes
 
 plain-comes : AreLegal → (line : Line) → IsInForm line → (w : World) → IsTidy w
     → IsRight (Plain line) w → Comes (deed_plain line w) w
-plain-comes legal lines.DrawsCount form w tidy right =
-    chosen-comes lines.DrawsCount form (is_none w.kept.chosen.draws) w tidy right.allowed
-plain-comes legal (lines.DrawsChaCha key) form w tidy right =
-    chosen-comes (lines.DrawsChaCha key) form (is_none w.kept.chosen.draws) w tidy right.allowed
-plain-comes legal (lines.DrawsList values) form w tidy right =
-    chosen-comes (lines.DrawsList values) form (may_list w.kept.chosen.draws) w tidy right.allowed
-plain-comes legal (lines.Conf conf) form w tidy right =
-    chosen-comes (lines.Conf conf) form (is_none w.kept.chosen.conf) w tidy right.allowed
-plain-comes legal (lines.Window window) form w tidy right =
-    chosen-comes (lines.Window window) form (is_none w.kept.chosen.window) w tidy right.allowed
-plain-comes legal (lines.Rekey rekey) form w tidy right =
-    chosen-comes (lines.Rekey rekey) form (is_none w.kept.chosen.rekey) w tidy right.allowed
-plain-comes legal (lines.Lag lag) form w tidy right =
-    chosen-comes (lines.Lag lag) form (is_none w.kept.chosen.lag) w tidy right.allowed
-plain-comes legal (lines.Suite suite) form w tidy right =
-    chosen-comes (lines.Suite suite) form (is_none w.kept.chosen.suite) w tidy right.allowed
-plain-comes legal (lines.Flag early) form w tidy right =
-    chosen-comes (lines.Flag early) form (is_none w.kept.chosen.early_flag) w tidy right.allowed
-plain-comes legal (lines.Group cak ckn) form w tidy right =
-    chosen-comes (lines.Group cak ckn) form (is_none w.kept.chosen.group) w tidy right.allowed
 plain-comes legal (lines.Station name sci priority) form w tidy right = (
   tidy-same w (record w.kept { begun = true }) tidy refl refl refl
       (λ e. absurd (let bad : true ≡ false = e in cc)),
@@ -208,7 +191,8 @@ plain-comes legal (lines.Send name destination body) form w tidy right =
     over-comes (is_over w) (send (place w name) user) w
     (send-comes legal (place w name) user w tidy is_user
     (where-none (is_out (place w name) w.run) kinds.Order both.1))
-plain-comes legal _ form w tidy right = tidy-same w _ tidy refl refl refl (λ e. e)
+plain-comes legal line form w tidy right =
+    chosen-comes line form w.kept.begun w refl tidy right.allowed
 
 pub deed-comes : AreLegal → (line : RollLine) → IsInFormRoll line → (w : World) → IsTidy w
     → IsRight line w → Comes (deed line w) w

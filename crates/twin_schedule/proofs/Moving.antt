@@ -2,7 +2,7 @@
 -- their names.
 use Rattle.std.proofs.Common.{◌≡◌, ◌<◌, ◌≤◌, ℕ, ◌+◌, Bool, true, false, List, [], ◌∷◌, ◌++◌, length}
 use Rattle.std.proofs.Common.{Some, refl, sym, ap, ◌∙◌, subst, length-append, arith}
-use Rattle.std.specs.Prelude.{Result, Ok, Err, is_some}
+use Rattle.std.specs.Prelude.{Result, Ok, Err, is_some, not}
 use Rattle.std.proofs.lemmas.Bool.{le-ltb, lt-ltb}
 use Rattle.lan_base.specs.declared.frame.UserFrame.{UserFrame}
 use Rattle.lan_core.specs.Claims.{user_at}
@@ -11,7 +11,6 @@ use Rattle.cak_roll.specs.declared.event.GroupNumber.TheVariants.{First, Second}
 use Rattle.cak_roll.specs.declared.event.TwinEvent.TheVariants.{Send}
 use Rattle.cak_roll.specs.Standing.{StandsFor as TwinStandsFor}
 use Rattle.trace_text.specs.declared.line.Line.{Line}
-use Rattle.trace_text.specs.declared.line.Line.TheVariants as lines
 use Rattle.trace_acts.specs.declared.choices.Choices.{Choices}
 use Rattle.trace_acts.specs.declared.halt.Halt.{Halt}
 use Rattle.trace_acts.specs.declared.halt.Halt.TheVariants as halts
@@ -20,7 +19,7 @@ use Rattle.trace_acts.specs.Choosing.{chosen_by}
 use Rattle.trace_acts.specs.Settings.{rule_of}
 use Rattle.trace_acts.specs.Supply.{draws_after, supply_nth}
 use Rattle.trace_acts.specs.Places.{is_elsewhere}
-use Rattle.trace_acts.proofs.Public.{user-at-end}
+use Rattle.trace_acts.proofs.Public.{allowed-then, user-at-end}
 use Rattle.twin_schedule.specs.declared.stage.Stage.{Stage}
 use Rattle.twin_schedule.specs.World.{World, Kept, pair_by, pair_of, place}
 use Rattle.twin_schedule.specs.Acts.{Act, exceed, happen, look, perform}
@@ -33,6 +32,7 @@ use Rattle.twin_schedule.specs.inside.Comes.{Comes}
 use Rattle.twin_schedule.specs.inside.Doing.{Did, Happened}
 use Rattle.twin_schedule.proofs.Doing.{change-does, ends-behind, exceed-does, look-does, told-none}
 use Rattle.twin_schedule.proofs.Looking.{Places, party-kept, place-is}
+use Rattle.twin_schedule.proofs.Refusing.{chooses-nothing}
 use Rattle.twin_schedule.proofs.Users.{twin-more}
 
 -- ---- what is kept changes
@@ -164,57 +164,14 @@ module _ {K : Type 0} {Took : K → Report → K → Type 0} {Broke : K → Repo
         ∙ ap (λ (n : ℕ). act (place w from) n) (place-is w old.value to t reached is_to)
         ∙ same w) d
 
-    -- a line that chooses nothing performs nothing
-    nothing-chosen : (line : Line) (now : Moment Stage K)
-        → ((chosen : Choices) → chosen_by line chosen ≡ chosen)
+    -- a line that isn't refused and would choose performs nothing
+    pub chosen-none : (line : Line) (now : Moment Stage K) → is_elsewhere line ≡ false
         → ((w : World) → choose (chosen_by line) ≡ deed_plain line w)
         → Did Took Broke (look (λ w. deed_plain line w)) now now (Ok tt)
-    nothing-chosen line now none is =
+    chosen-none line now later is =
         same-line line (choose (chosen_by line)) now now (Ok tt) is
         (change-does (λ kept. record kept { chosen = chosen_by line kept.chosen }) now now
         (λ w stands. subst (λ (chosen : Choices).
         StandsFor (record w { kept = record w.kept { chosen = chosen } }) now.value)
-        (sym (none w.kept.chosen)) stands) refl)
-
-    pub default-does : (line : Line) (now : Moment Stage K) → is_elsewhere line ≡ false
-        → ((x : _) (x' : _) (x'' : _) → line ≡ lines.Station x x' x'' → ⊥)
-        → ((x : _) → line ≡ lines.Tick x → ⊥) → ((x : _) (x' : _) → line ≡ lines.TickOne x x' → ⊥)
-        → ((x : _) → line ≡ lines.Flow x → ⊥)
-        → ((x : _) (x' : _) → line ≡ lines.Cut x x' → ⊥)
-        → ((x : _) (x' : _) → line ≡ lines.Mend x x' → ⊥) → ((x : _) → line ≡ lines.Restart x → ⊥)
-        → ((x : _) (x' : _) (x'' : _) → line ≡ lines.Send x x' x'' → ⊥)
-        → Did Took Broke (look (λ w. deed_plain line w)) now now (Ok tt)
-    default-does (lines.Station x x' x'') now later a b c d e f g h = absurd (a x x' x'' refl)
-    default-does (lines.Tick x) now later a b c d e f g h = absurd (b x refl)
-    default-does (lines.TickOne x x') now later a b c d e f g h = absurd (c x x' refl)
-    default-does (lines.Flow x) now later a b c d e f g h = absurd (d x refl)
-    default-does (lines.Cut x x') now later a b c d e f g h = absurd (e x x' refl)
-    default-does (lines.Mend x x') now later a b c d e f g h = absurd (f x x' refl)
-    default-does (lines.Restart x) now later a b c d e f g h = absurd (g x refl)
-    default-does (lines.Send x x' x'') now later a b c d e f g h = absurd (h x x' x'' refl)
-    default-does lines.DrawsCount now later a b c d e f g h = absurd (cc later)
-    default-does (lines.DrawsChaCha key) now later a b c d e f g h = absurd (cc later)
-    default-does (lines.DrawsList values) now later a b c d e f g h = absurd (cc later)
-    default-does (lines.Conf conf) now later a b c d e f g h = absurd (cc later)
-    default-does (lines.Window window) now later a b c d e f g h = absurd (cc later)
-    default-does (lines.Rekey rekey) now later a b c d e f g h = absurd (cc later)
-    default-does (lines.Lag lag) now later a b c d e f g h = absurd (cc later)
-    default-does (lines.Suite suite) now later a b c d e f g h = absurd (cc later)
-    default-does (lines.Flag early) now later a b c d e f g h = absurd (cc later)
-    default-does (lines.Group cak ckn) now later a b c d e f g h = absurd (cc later)
-    default-does (lines.Burst name workers frames destination body) now later a b c d e f g h =
-        absurd (cc later)
-    default-does lines.While now later a b c d e f g h = absurd (cc later)
-    default-does lines.End now later a b c d e f g h = absurd (cc later)
-    default-does (lines.Deliver x x') now later a b c d e f g h =
-        nothing-chosen (lines.Deliver x x') now (λ chosen. refl) (λ w. refl)
-    default-does (lines.Feed x x' x'') now later a b c d e f g h =
-        nothing-chosen (lines.Feed x x' x'') now (λ chosen. refl) (λ w. refl)
-    default-does (lines.Spread x) now later a b c d e f g h =
-        nothing-chosen (lines.Spread x) now (λ chosen. refl) (λ w. refl)
-    default-does (lines.Lose x) now later a b c d e f g h =
-        nothing-chosen (lines.Lose x) now (λ chosen. refl) (λ w. refl)
-    default-does (lines.Inject x x') now later a b c d e f g h =
-        nothing-chosen (lines.Inject x x') now (λ chosen. refl) (λ w. refl)
-    default-does lines.Race now later a b c d e f g h =
-        nothing-chosen lines.Race now (λ chosen. refl) (λ w. refl)
+        (sym (chooses-nothing line w.kept.chosen
+        (allowed-then line w.kept.chosen stands.named ∙ ap not later))) stands) refl)

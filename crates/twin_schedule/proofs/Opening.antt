@@ -55,16 +55,6 @@ use Rattle.twin_schedule.proofs.Replaying.{is-waiting, never-does, opens-at, sta
 pub plain-before : (line : Line) (n : ℕ) (chosen : Choices) (second : Option Keyed)
     → refusal (Plain line) (waiting n chosen second) ≡ first_of (is_allowed line false chosen) None
 unfolding run_of stations
-plain-before (lines.Send name destination body) n chosen second = refl
-plain-before (lines.TickOne name ticks) n chosen second = refl
-plain-before (lines.Deliver frame name) n chosen second = refl
-plain-before (lines.Feed first last name) n chosen second = refl
-plain-before (lines.Spread frame) n chosen second = refl
-plain-before (lines.Lose frame) n chosen second = refl
-plain-before (lines.Cut from to) n chosen second = refl
-plain-before (lines.Mend from to) n chosen second = refl
-plain-before (lines.Restart name) n chosen second = refl
-plain-before (lines.Inject name octets) n chosen second = refl
 plain-before (lines.Station name sci priority) n chosen second = refl
 plain-before _ n chosen second = refl
 
@@ -158,16 +148,7 @@ module _ {K : Type 0} {Took : K → Report → K → Type 0} {Broke : K → Repo
 pub chosen-deed : (line : Line) (chosen : Choices) → is_allowed line false chosen ≡ true
     → ((x : _) (x' : _) (x'' : _) → line ≡ lines.Station x x' x'' → ⊥) → (w : World)
     → choose (chosen_by line) ≡ deed_plain line w
-chosen-deed (lines.Station name sci priority) chosen allowed other w =
-    absurd (other name sci priority refl)
-chosen-deed (lines.Tick rounds) chosen allowed other w = absurd (cc allowed)
-chosen-deed (lines.TickOne name ticks) chosen allowed other w = absurd (cc allowed)
-chosen-deed (lines.Flow rounds) chosen allowed other w = absurd (cc allowed)
-chosen-deed (lines.Cut from to) chosen allowed other w = absurd (cc allowed)
-chosen-deed (lines.Mend from to) chosen allowed other w = absurd (cc allowed)
-chosen-deed (lines.Restart name) chosen allowed other w = absurd (cc allowed)
-chosen-deed (lines.Send name destination body) chosen allowed other w = absurd (cc allowed)
-chosen-deed _ chosen allowed other w = refl
+chosen-deed line chosen allowed other w = grind arith
 
 -- ---- what was chosen can be opened
 
@@ -186,15 +167,6 @@ opens-stays (lines.Group cak ckn) form chosen second allowed opens = (
   subst (λ (o : Option Keyed). IsSecond (Some (record { cak = secret_of cak; ckn = ckn })) o)
       (sym (alone chosen.group second allowed opens.1)) tt,
 )
-opens-stays lines.DrawsCount form chosen second allowed opens = opens
-opens-stays (lines.DrawsChaCha key) form chosen second allowed opens = opens
-opens-stays (lines.DrawsList values) form chosen second allowed opens = opens
-opens-stays (lines.Conf conf) form chosen second allowed opens = opens
-opens-stays (lines.Window window) form chosen second allowed opens = opens
-opens-stays (lines.Rekey rekey) form chosen second allowed opens = opens
-opens-stays (lines.Lag lag) form chosen second allowed opens = opens
-opens-stays (lines.Suite suite) form chosen second allowed opens = opens
-opens-stays (lines.Flag early) form chosen second allowed opens = opens
 opens-stays _ form chosen second allowed opens = opens
 
 joins : (ckn : List ℕ) (first second : Option Keyed) → may_be_second ckn first second ≡ true

@@ -1,6 +1,5 @@
 -- Which lines the groups at work refuse.
-use Rattle.std.proofs.Common.{◌≡◌, ℕ, Bool, List, Option, Some, None, refl}
-use Rattle.std.proofs.Common.{◌⊎◌, inl, inr, sym, ap, ◌∙◌}
+use Rattle.std.proofs.Common.{◌≡◌, ℕ, Bool, true, List, Option, Some, None, refl, sym, ap, ◌∙◌, arith}
 use Rattle.std.specs.Prelude.{IfNone, is_some, map, not}
 use Rattle.std.specs.Option.{option_or}
 use Rattle.lan_base.specs.declared.address.Sci.{Sci}
@@ -8,18 +7,19 @@ use Rattle.lan_core.specs.Run.{stations}
 use Rattle.cak_roll.specs.declared.event.GroupNumber.TheVariants.{First}
 use Rattle.cak_roll.specs.Twin.{run_of}
 use Rattle.trace_text.specs.declared.line.Line.{Line}
-use Rattle.trace_text.specs.declared.line.Line.TheVariants as lines
 use Rattle.trace_text.specs.declared.twin.line.RollLine.{RollLine}
 use Rattle.trace_text.specs.declared.twin.line.RollLine.TheVariants.{Plain}
+use Rattle.trace_acts.specs.declared.choices.Choices.{Choices}
 use Rattle.trace_acts.specs.declared.halt.Kind.{Kind}
 use Rattle.trace_acts.specs.declared.halt.Kind.TheVariants as kinds
 use Rattle.trace_acts.specs.Kinds.{first_of, is_allowed, or_else, unknown, where_}
+use Rattle.trace_acts.specs.Choosing.{chosen_by}
 use Rattle.trace_acts.specs.Names.{is_in}
 use Rattle.trace_acts.specs.Places.{is_elsewhere}
 use Rattle.trace_acts.proofs.Public.{allowed-then, map-map-scis}
 use Rattle.twin_schedule.specs.declared.stage.Stage.{Stage}
 use Rattle.twin_schedule.specs.World.{names, place, scis, World}
-use Rattle.twin_schedule.specs.Kinds.{may_be_second, may_stand, refusal, wrong, wrong_plain}
+use Rattle.twin_schedule.specs.Kinds.{may_be_second, may_stand, refusal, wrong}
 use Rattle.twin_schedule.specs.Ends.{IsReached}
 use Rattle.twin_schedule.specs.Stages.{StandsFor}
 use Rattle.twin_schedule.proofs.Looking.{Places, place-is}
@@ -100,9 +100,9 @@ taken-is name sci w stage o is stands =
     (ap (λ l. map (λ (s : Sci). s.0) l) stands.scis
     ∙ map-map-scis (stations (run_of First w.run)))
 
--- the same is wrong with a link that is cut and with one that is mended
-pub link-wrong : (line : Line) (from to : List ℕ) (w : World) (o : Option Kind)
-    → (line ≡ lines.Cut from to) ⊎ (line ≡ lines.Mend from to)
-    → o ≡ or_else (unknown from (names w)) (unknown to (names w)) → o ≡ wrong_plain line w
-link-wrong line from to w o (inl is) wrong_so = rw is wrong_so
-link-wrong line from to w o (inr is) wrong_so = rw is wrong_so
+-- ---- what is chosen
+
+-- a line that may stand behind the first station chooses nothing
+pub chooses-nothing : (line : Line) (chosen : Choices) → is_allowed line true chosen ≡ true
+    → chosen_by line chosen ≡ chosen
+chooses-nothing line chosen allowed = grind arith

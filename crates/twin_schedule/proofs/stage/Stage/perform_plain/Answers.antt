@@ -1,10 +1,10 @@
-use Rattle.std.proofs.Common.{refl}
+use Rattle.std.proofs.Common.{refl, arith}
 use Rattle.cak_roll.specs.declared.event.TwinEvent.TheVariants.{Start}
 use Rattle.twin_schedule.specs.Acts.{change, happen, seq, times}
 use Rattle.twin_schedule.specs.Lines.{begin, cut_in, deed_plain, flow_round, mended_in, restart}
 use Rattle.twin_schedule.specs.Lines.{round, send_new, tick_both}
 use Rattle.twin_schedule.proofs.Doing.{change-does, handed-on, memory-does}
-use Rattle.twin_schedule.proofs.Moving.{default-does, one-place, same-line, two-places}
+use Rattle.twin_schedule.proofs.Moving.{chosen-none, one-place, same-line, two-places}
 use Rattle.twin_schedule.proofs.stage.Stage.perform_plain.Goals as goal
 
 pub returns-in-Station : goal.returns-in-Station
@@ -62,7 +62,4 @@ returns-in-Send g c =
     (λ w. rw c.in-Send.is refl) c.place-in-Send.ensures c.send_body.ensures
 
 pub returns-in_default : goal.returns-in_default
-returns-in_default g c =
-    let d = c.in_default in
-    default-does c.args.line.now _ c.requires.later d.not-Station d.not-Tick d.not-TickOne d.not-Flow
-    d.not-Cut d.not-Mend d.not-Restart d.not-Send
+returns-in_default g c = chosen-none c.args.line.now _ c.requires.later (λ w. grind arith)

@@ -1,5 +1,6 @@
+use Rattle.std.proofs.Common.{inl, inr}
 use Rattle.twin_schedule.specs.World.{is_out}
-use Rattle.twin_schedule.proofs.Refusing.{link-wrong, taken-is, two-unknown, unknown-or}
+use Rattle.twin_schedule.proofs.Refusing.{taken-is, two-unknown, unknown-or}
 use Rattle.twin_schedule.proofs.stage.Stage.wrong_plain.Goals as goal
 
 pub returns-in-Station : goal.returns-in-Station
@@ -15,5 +16,6 @@ returns-in-Send c = λ w reached.
 
 pub returns-in-Cut : goal.returns-in-Cut
 returns-in-Cut c = λ w reached.
-    link-wrong c.args.line.now c.in-Cut.from c.in-Cut.to w _ c.in-Cut.is (two-unknown c.in-Cut.from c.in-Cut.to w c.args.self.now _ _ _ c.or-in-Cut.ensures
-    c.unknown-in-Cut.ensures c.unknown-in-Cut-2.ensures reached.stands)
+    let unknown = two-unknown c.in-Cut.from c.in-Cut.to w c.args.self.now _ _ _ c.or-in-Cut.ensures
+    c.unknown-in-Cut.ensures c.unknown-in-Cut-2.ensures reached.stands in
+    elim c.in-Cut.is [ inl is ↦ rw is unknown | inr is ↦ rw is unknown ]
