@@ -1,6 +1,6 @@
 -- What the lines so far have made: a twin run, and what is kept beside it.
 use Rattle.std.specs.Prelude.{ℕ, ◌==◌, ◌-◌, ◌&&◌, Bool, false, not, nat_eq, List, [], ◌∷◌, ◌++◌}
-use Rattle.std.specs.Prelude.{length, slice_get, unwrap_or, Option, Some, None}
+use Rattle.std.specs.Prelude.{length, get_or, Option, Some, None}
 use Rattle.std.specs.List.{list_any, position_or_len, range_with_len}
 use Rattle.std.specs.Cmp.Lexicographic.{pointwise}
 use Rattle.lan_base.specs.declared.frame.UserFrame.{UserFrame}
@@ -119,19 +119,15 @@ abbrev pub senders_of : List Frame → List ℕ
 senders_of [] = []
 senders_of (frame ∷ earlier) = senders_of earlier ++ frame.station ∷ []
 
--- the item at a place, from 0; 0 where there is none
-abbrev pub item : List ℕ → ℕ → ℕ
-item xs place = unwrap_or (slice_get xs place) 0
-
 -- the station at a place of a group
 abbrev pub station_at : GroupNumber → Twin → ℕ → ℕ
 station_at First t place = place
-station_at Second t place = item (adopters t) place
+station_at Second t place = get_or (adopters t) place 0
 
 -- the sender of a group's frame of a number, from 1
 abbrev pub sender : GroupNumber → ℕ → Twin → ℕ
 sender g number t =
-    station_at g t (item (senders_of (air (run_of g t))) (number - 1))
+    station_at g t (get_or (senders_of (air (run_of g t))) (number - 1) 0)
 
 -- how many frames of a group were spread
 abbrev pub spread_in : GroupNumber → Kept → ℕ

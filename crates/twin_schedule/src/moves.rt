@@ -11,7 +11,7 @@ ghost use Rattle.twin_schedule.specs.Ends.{moment, IsReached};
 ghost use Rattle.twin_schedule.specs.Stages.{StandsFor};
 ghost use Rattle.twin_schedule.specs.inside.Doing.{Did};
 
-use crate::party::{Party, item};
+use crate::party::{Party, number_at};
 use crate::recorder::TwinRecorder;
 use crate::stage::Stage;
 use cak_roll::{GroupNumber, TwinEvent};
@@ -72,7 +72,7 @@ impl Stage {
         ensures { Did R.Took R.Broke round
             (moment self.old outlet.old) (moment self.new outlet.new) result }
     {
-        for station in 0..self.count() {
+        for station in 0..self.station_count() {
             self.tick_both(station, recorder, outlet)?;
         }
         Ok(())
@@ -171,7 +171,7 @@ impl Stage {
     {
         match group {
             GroupNumber::First => self.first.sender(frame),
-            GroupNumber::Second => item(
+            GroupNumber::Second => number_at(
                 self.twin.adopters(),
                 usize::from(self.second.sender(frame)),
             ),
@@ -185,7 +185,7 @@ impl Stage {
     {
         room.clear();
         match group {
-            GroupNumber::First => put_places(self.count(), room),
+            GroupNumber::First => put_places(self.station_count(), room),
             GroupNumber::Second => room.extend_from_slice(self.twin.adopters()),
         }
     }
@@ -201,7 +201,7 @@ impl Stage {
         ensures { Did R.Took R.Broke (spread_group group)
             (moment self.old outlet.old) (moment self.new outlet.new) result }
     {
-        let count = counted(self.party(group).count());
+        let count = counted(self.party(group).frame_count());
         let first = self.party(group).spread;
         self.spread_between(group, first, count, room, recorder, outlet)?;
         self.set_spread(group, count);

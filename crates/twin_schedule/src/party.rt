@@ -1,7 +1,6 @@
 //! What is kept of one group beside its run.
 
-ghost use Rattle.std.specs.Prelude.{◌≡◌, ◌-◌, ◌++◌, [], length, OnOk};
-ghost use Rattle.twin_schedule.specs.World.{item};
+ghost use Rattle.std.specs.Prelude.{◌≡◌, ◌-◌, ◌++◌, [], get_or, length, OnOk};
 ghost use Rattle.twin_schedule.specs.inside.Telling.{sender_in, senders_in};
 
 use lan_base::Name;
@@ -32,7 +31,7 @@ impl Party {
     }
 
     /// How many frames the air of the group has.
-    pub fn count(&self) -> usize
+    pub fn frame_count(&self) -> usize
         ensures { result ≡ length self.now.senders.items }
     {
         self.senders.len()
@@ -40,34 +39,34 @@ impl Party {
 
     /// The place of the sender of a frame's number, from 1.
     pub fn sender(&self, number: u32) -> u8
-        ensures { result ≡ item self.now.senders.items (number - 1) }
+        ensures { result ≡ get_or self.now.senders.items (number - 1) 0 }
     {
-        item(&self.senders, number.saturating_sub(1) as usize)
+        number_at(&self.senders, number.saturating_sub(1) as usize)
     }
 }
 
-/// The item at a place, from 0, and 0 where there is none.
-pub fn item(items: &[u8], place: usize) -> u8
-    ensures { result ≡ item items.now place }
+/// The number at a place, from 0, and 0 where there is none.
+pub fn number_at(numbers: &[u8], place: usize) -> u8
+    ensures { result ≡ get_or numbers.now place 0 }
 {
-    match items.get(place) {
-        Some(item) => *item,
+    match numbers.get(place) {
+        Some(number) => *number,
         None => 0,
     }
 }
 
 /// The senders of the frames that facts put on the air come.
-pub fn put(senders: &mut Vec<u8>, facts: &[Fact]) -> Result<(), AllocError>
+pub fn put_senders(senders: &mut Vec<u8>, facts: &[Fact]) -> Result<(), AllocError>
     ensures { OnOk result (senders.new.items ≡ senders.old.items ++ senders_in facts.now) }
 {
     for fact in facts {
-        put_one(senders, fact)?;
+        put_sender(senders, fact)?;
     }
     Ok(())
 }
 
 /// The sender of the frame that a fact puts on the air comes, if there is one.
-fn put_one(senders: &mut Vec<u8>, fact: &Fact) -> Result<(), AllocError>
+fn put_sender(senders: &mut Vec<u8>, fact: &Fact) -> Result<(), AllocError>
     ensures { OnOk result (senders.new.items ≡ senders.old.items ++ sender_in fact.now) }
 {
     if let Fact::Framed { station, .. } = fact {

@@ -28,7 +28,7 @@ ghost use Rattle.twin_schedule.specs.inside.Doing.{halt_by, Did, Happened};
 use crate::choosing::opening_of;
 use crate::party::Party;
 use crate::recorder::TwinRecorder;
-use crate::telling::{admit, put_all, tell};
+use crate::telling::{admit, put_all_senders, tell};
 use cak_roll::{GroupNumber, Twin, TwinError, TwinEvent};
 use lan_base::{Mac, Name, Octets, Sci, UserFrame};
 use lan_core::{StepError, Which};
@@ -157,7 +157,7 @@ impl Stage {
             &mut self.scis,
             event,
         )?;
-        put_all(
+        put_all_senders(
             &mut self.first.senders,
             &mut self.second.senders,
             told.as_slice(),
@@ -188,7 +188,7 @@ impl Stage {
         let start = TwinEvent::Start {
             name,
             sci,
-            priority: few(priority as usize),
+            priority: octet_of(priority as usize),
         };
         self.happen(&start, None, recorder, outlet)
     }
@@ -302,11 +302,11 @@ impl Stage {
     // ---- names
 
     /// How many stations there are.
-    pub fn count(&self) -> u8
+    pub fn station_count(&self) -> u8
         ensures { length self.now.first.names.items ≤ 255
             → result ≡ length self.now.first.names.items }
     {
-        few(self.first.names.len())
+        octet_of(self.first.names.len())
     }
 
     /// The place of the station of a name; where there is none, the count of stations.
@@ -314,7 +314,7 @@ impl Stage {
         ensures { length self.now.first.names.items ≤ 255
             → result ≡ position_or_len (pointwise nat_eq name.now) self.now.first.names.items }
     {
-        few(position(&self.first.names, name))
+        octet_of(position(&self.first.names, name))
     }
 
     // ---- lines
@@ -415,9 +415,9 @@ pub fn group_of(number: u32) -> GroupNumber
     }
 }
 
-/// A count or a place of stations, of which there are fewer than 256.
-fn few(count: usize) -> u8
-    ensures { count ≤ 255 → result ≡ count }
+/// A number of at most 255, as a priority is, and a count or a place of stations.
+fn octet_of(number: usize) -> u8
+    ensures { number ≤ 255 → result ≡ number }
 {
-    u8::try_from(count).unwrap_or(u8::MAX)
+    u8::try_from(number).unwrap_or(u8::MAX)
 }

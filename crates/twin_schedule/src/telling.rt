@@ -6,7 +6,7 @@ ghost use Rattle.cak_roll.specs.declared.event.GroupNumber.TheVariants as groups
 ghost use Rattle.twin_schedule.specs.inside.Telling.{started_name, started_sci, adopted_name};
 ghost use Rattle.twin_schedule.specs.inside.Telling.{sent_in, report_with, AreTelling};
 
-use crate::party::put;
+use crate::party::put_senders;
 use crate::recorder::TwinRecorder;
 use cak_roll::{GroupNumber, Told, TwinEvent};
 use lan_base::{Name, Sci, Unwritten};
@@ -40,7 +40,11 @@ pub fn admit(
 }
 
 /// The senders of the frames that were put on the air of each group come.
-pub fn put_all(first: &mut Vec<u8>, second: &mut Vec<u8>, told: &[Told]) -> Result<(), AllocError>
+pub fn put_all_senders(
+    first: &mut Vec<u8>,
+    second: &mut Vec<u8>,
+    told: &[Told],
+) -> Result<(), AllocError>
     ensures first { OnOk result (first.new.items ≡ first.old.items ++ sent_in groups.First told.now) }
     ensures second { OnOk result (second.new.items
         ≡ second.old.items ++ sent_in groups.Second told.now) }
@@ -59,8 +63,8 @@ fn put_told(first: &mut Vec<u8>, second: &mut Vec<u8>, told: &Told) -> Result<()
         ≡ second.old.items ++ sent_in groups.Second (told.now ∷ [])) }
 {
     match told.group {
-        GroupNumber::First => put(first, told.facts.as_slice()),
-        GroupNumber::Second => put(second, told.facts.as_slice()),
+        GroupNumber::First => put_senders(first, told.facts.as_slice()),
+        GroupNumber::Second => put_senders(second, told.facts.as_slice()),
     }
 }
 

@@ -15,10 +15,10 @@ pub returns-in_err-admit : goal.returns-in_err-admit
 returns-in_err-admit g c =
     happened-err _ _ _ _ _ _ (event-wanting _ c.args.event.now _ _ refl) c.from_residual.ensures.1
 
-pub returns-in_err-put_all : goal.returns-in_err-put_all
-returns-in_err-put_all g c =
+pub returns-in_err-put_all_senders : goal.returns-in_err-put_all_senders
+returns-in_err-put_all_senders g c =
     happened-err _ _ _ _ _ _ (event-wanting _ c.args.event.now _ _ refl)
-    c.from_residual-in_err-put_all.ensures.1
+    c.from_residual-in_err-put_all_senders.ensures.1
 
 pub returns-in_err-tell : goal.returns-in_err-tell
 returns-in_err-tell g c =
@@ -37,8 +37,8 @@ returns-in_err-tell g c =
       scis = c.in_ok-admit.ensures.scis;
       first_names = c.in_ok-admit.ensures.first;
       second_names = c.in_ok-admit.ensures.second;
-      first_senders = rw c.as_slice.ensures at c.in_ok-put_all.ensures.first;
-      second_senders = rw c.as_slice.ensures at c.in_ok-put_all.ensures.second;
+      first_senders = rw c.as_slice.ensures at c.in_ok-put_all_senders.ensures.first;
+      second_senders = rw c.as_slice.ensures at c.in_ok-put_all_senders.ensures.second;
       first_spread = refl;
       second_spread = refl;
     })
@@ -60,8 +60,8 @@ returns g c =
       scis = c.in_ok-admit.ensures.scis;
       first_names = c.in_ok-admit.ensures.first;
       second_names = c.in_ok-admit.ensures.second;
-      first_senders = rw c.as_slice.ensures at c.in_ok-put_all.ensures.first;
-      second_senders = rw c.as_slice.ensures at c.in_ok-put_all.ensures.second;
+      first_senders = rw c.as_slice.ensures at c.in_ok-put_all_senders.ensures.first;
+      second_senders = rw c.as_slice.ensures at c.in_ok-put_all_senders.ensures.second;
       first_spread = refl;
       second_spread = refl;
     })

@@ -11,4 +11,4 @@ returns c = λ few.
     rw c.deref.ensures.value at c.position.ensures in
     let within = place-within (pointwise nat_eq c.args.name.now) c.args.self.now.first.names.items
     in
-    c.few.ensures (omega arith) ∙ is
+    c.octet_of.ensures (omega arith) ∙ is

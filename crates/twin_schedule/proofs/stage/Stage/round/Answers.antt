@@ -6,19 +6,19 @@ use Rattle.twin_schedule.proofs.stage.Stage.round.Goals as goal
 
 pub loop-station-init : goal.loop-station-init
 loop-station-init g c =
-    stations-leads tick_both c.count-station-end.result _ c.count-station-end.ensures
+    stations-leads tick_both c.station_count-station-end.result _ c.station_count-station-end.ensures
 
 pub returns-in_err-tick_both : goal.returns-in_err-tick_both
 returns-in_err-tick_both g c =
-    span-exit tick_both c.loop-station.station c.count-station-end.result _ _ _ _ _ _ (omega arith)
+    span-exit tick_both c.loop-station.station c.station_count-station-end.result _ _ _ _ _ _ (omega arith)
     c.loop-station.invariant c.in_err-tick_both.ensures c.from_residual.ensures.1
 
 pub loop-station-preserved : goal.loop-station-preserved
 loop-station-preserved g c =
-    span-step tick_both c.loop-station.station c.count-station-end.result _ _ _ _ (omega arith)
+    span-step tick_both c.loop-station.station c.station_count-station-end.result _ _ _ _ (omega arith)
     c.loop-station.invariant c.in_ok-tick_both.ensures
 
 pub returns : goal.returns
 returns g c =
-    span-end tick_both c.loop-station.station c.count-station-end.result _ _ _ (omega arith)
+    span-end tick_both c.loop-station.station c.station_count-station-end.result _ _ _ (omega arith)
     c.loop-station.invariant

@@ -10,9 +10,9 @@ use Rattle.twin_schedule.proofs.stage.Stage.spread_group.Goals as goal
 
 pub returns-in_err-spread_between : goal.returns-in_err-spread_between
 returns-in_err-spread_between g c =
-    let all : c.count.result
+    let all : c.frame_count.result
     ≡ length (of_group c.args.group c.args.self.now.first c.args.self.now.second).senders.items =
-    c.count.ensures ∙ ap (λ p. length p.senders.items) c.party.ensures in
+    c.frame_count.ensures ∙ ap (λ p. length p.senders.items) c.party.ensures in
     handed-on _ _ _ _ _ (look-does
     (λ w. seq (span (λ place. spread c.args.group (place + 1)) (spread_in c.args.group w.kept)
     (frames c.args.group w.run - spread_in c.args.group w.kept))
@@ -27,9 +27,9 @@ returns-in_err-spread_between g c =
 
 pub returns : goal.returns
 returns g c =
-    let all : c.count.result
+    let all : c.frame_count.result
     ≡ length (of_group c.args.group c.args.self.now.first c.args.self.now.second).senders.items =
-    c.count.ensures ∙ ap (λ p. length p.senders.items) c.party.ensures in
+    c.frame_count.ensures ∙ ap (λ p. length p.senders.items) c.party.ensures in
     look-does
     (λ w. seq (span (λ place. spread c.args.group (place + 1)) (spread_in c.args.group w.kept)
     (frames c.args.group w.run - spread_in c.args.group w.kept))

@@ -9,7 +9,7 @@ use Rattle.twin_schedule.proofs.stage.Stage.start.Goals as goal
 
 pub returns : goal.returns
 returns g c = λ small.
-    same-did (λ (n : ℕ). seq begin (happen (Start c.args.name c.args.sci n))) c.few.result
-    c.args.priority _ _ _ (c.few.ensures small)
-    (then-ok begin (happen (Start c.args.name c.args.sci c.few.result)) _ _ _ _ (begin-does _)
-    (plainly (Start c.args.name c.args.sci c.few.result) _ _ _ (λ users. tt) c.happen.ensures))
+    same-did (λ (n : ℕ). seq begin (happen (Start c.args.name c.args.sci n))) c.octet_of.result
+    c.args.priority _ _ _ (c.octet_of.ensures small)
+    (then-ok begin (happen (Start c.args.name c.args.sci c.octet_of.result)) _ _ _ _ (begin-does _)
+    (plainly (Start c.args.name c.args.sci c.octet_of.result) _ _ _ (λ users. tt) c.happen.ensures))

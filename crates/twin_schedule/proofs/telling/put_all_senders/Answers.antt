@@ -1,7 +1,7 @@
 use Rattle.std.proofs.Common.{arith}
 use Rattle.cak_roll.specs.declared.event.GroupNumber.TheVariants.{First, Second}
 use Rattle.twin_schedule.proofs.Told.{sent-more}
-use Rattle.twin_schedule.proofs.telling.put_all.Goals as goal
+use Rattle.twin_schedule.proofs.telling.put_all_senders.Goals as goal
 
 pub loop-one-preserved : goal.loop-one-preserved
 loop-one-preserved c = record {
