@@ -1,23 +1,22 @@
 //! A replay performs the lines of a trace of two groups, one after the other.
 
-ghost use Rattle.std.specs.Prelude.{◌≡◌, ◌⊎◌, ℕ, length, Some, None, Ok, Err, IfErr, IfNone};
+ghost use Rattle.std.specs.Prelude.{◌≡◌, ◌⊎◌, ℕ, length, Some, None, Ok, Err, IfOk, IfErr, IfNone};
 ghost use Rattle.std.specs.Prelude.{OnOk, is_some, true, false};
 ghost use Rattle.trace_text.specs.Writing.{IsInForm};
 ghost use Rattle.trace_text.specs.twin.InForm.{IsInFormRoll};
 ghost use Rattle.trace_acts.specs.declared.halt.Halt.{Halt};
 ghost use Rattle.trace_acts.specs.declared.halt.Kind.TheVariants as kinds;
 ghost use Rattle.trace_acts.specs.Kinds.{first_of, is_allowed};
-ghost use Rattle.trace_acts.specs.Places.{IsStation};
 ghost use Rattle.trace_acts.specs.Settings.{secret_of};
 ghost use Rattle.twin_schedule.specs.World.{World, beginning, waiting};
 ghost use Rattle.twin_schedule.specs.Acts.{look};
 ghost use Rattle.twin_schedule.specs.Kinds.{refusal};
 ghost use Rattle.twin_schedule.specs.Lines.{numbered, at_line, act_of, deed_plain, performed};
 ghost use Rattle.twin_schedule.specs.Ends.{moment, IsReached};
-ghost use Rattle.twin_schedule.specs.Standing.{StandsFor, Does};
+ghost use Rattle.twin_schedule.specs.Standing.{StandsFor, Does, MayOpen};
 ghost use Rattle.twin_schedule.specs.Stages.{StandsFor as StageStandsFor};
 ghost use Rattle.twin_schedule.specs.declared.stage.Stage.{Stage};
-ghost use Rattle.twin_schedule.specs.inside.Choosing.{is_later, MayJoin, MayPrepare};
+ghost use Rattle.twin_schedule.specs.inside.Choosing.{begun_in, is_later, MayJoin, MayPrepare};
 ghost use Rattle.twin_schedule.specs.inside.Doing.{DidSo};
 
 use crate::recorder::TwinRecorder;
@@ -221,7 +220,12 @@ impl TwinReplay {
             (moment self.old outlet.old) (moment self.new outlet.new) result }
     {
         match line {
-            Line::Station { .. } => self.open(line, recorder, outlet),
+            Line::Station { .. } => {
+                let mut stage = self.open()?;
+                let outcome = stage.perform_plain(line, recorder, outlet);
+                put(&mut self.stage, stage);
+                outcome
+            }
             _ => {
                 choose(self.alloc, &mut self.chosen, line)?;
                 Ok(())
@@ -229,25 +233,17 @@ impl TwinReplay {
         }
     }
 
-    /// The first station starts.
-    fn open<K, R: TwinRecorder<K>>(
-        &mut self,
-        line: &Line,
-        recorder: &mut R,
-        outlet: &mut K,
-    ) -> Result<(), Halt>
-        requires form { IsInForm line.now }
-        requires unbegun { self.old.stage ≡ None }
-        requires keyed { is_some self.old.chosen.group ≡ true }
-        requires station { IsStation line.now }
-        ensures { DidSo R.Took R.Broke (look (λ w. deed_plain line.now w))
-            (moment self.old outlet.old) (moment self.new outlet.new) result }
+    /// The groups open, by what was chosen.
+    fn open(&mut self) -> Result<Stage, Halt>
+        requires { is_some self.old.chosen.group ≡ true }
+        ensures stands { IfOk result (StageStandsFor
+            (begun_in (waiting self.old.line self.old.chosen self.old.second))) }
+        ensures memory { MayOpen self.old.chosen.group self.old.second
+            → IfErr result (λ halt. halt ≡ Halt.Memory) }
+        ensures halted { self.new.halted ≡ self.old.halted }
     {
         let chosen = replace(&mut self.chosen, Choices::new());
-        let mut stage = Stage::new(self.alloc, chosen, self.second.take(), self.line)?;
-        let outcome = stage.perform_plain(line, recorder, outlet);
-        put(&mut self.stage, stage);
-        outcome
+        Stage::new(self.alloc, chosen, self.second.take(), self.line)
     }
 }
 
