@@ -3,3 +3,4 @@ pub mod Comes
 pub mod Choosing
 pub mod Doing
 pub mod Telling
+pub mod Turning

@@ -10,6 +10,7 @@ ghost use Rattle.twin_schedule.specs.Lines.{flow_round, is_passed_by};
 ghost use Rattle.twin_schedule.specs.Ends.{moment, IsReached};
 ghost use Rattle.twin_schedule.specs.Stages.{StandsFor};
 ghost use Rattle.twin_schedule.specs.inside.Doing.{Did};
+ghost use Rattle.twin_schedule.specs.inside.Turning.{turn_of};
 
 use crate::party::{Party, number_at};
 use crate::recorder::TwinRecorder;
@@ -17,6 +18,17 @@ use crate::stage::Stage;
 use cak_roll::{GroupNumber, TwinEvent};
 use std::alloc::AllocError;
 use trace_acts::Halt;
+
+/// What a line does so many times.
+#[derive(Clone, Copy)]
+pub enum Turn {
+    /// A tick of one station, in each group.
+    Station(u8),
+    /// A tick of each station.
+    Round,
+    /// A round of ticks, and then the frames of each group are spread.
+    FlowRound,
+}
 
 impl Stage {
     /// A tick of a station in a group, where it takes part.
@@ -50,23 +62,6 @@ impl Stage {
         self.tick_in(GroupNumber::Second, station, recorder, outlet)
     }
 
-    /// So many ticks of one station.
-    pub fn ticks<K, R: TwinRecorder<K>>(
-        &mut self,
-        station: u8,
-        count: u32,
-        recorder: &mut R,
-        outlet: &mut K,
-    ) -> Result<(), Halt>
-        ensures { Did R.Took R.Broke (times count (tick_both station))
-            (moment self.old outlet.old) (moment self.new outlet.new) result }
-    {
-        for _ in 0..count {
-            self.tick_both(station, recorder, outlet)?;
-        }
-        Ok(())
-    }
-
     /// A tick of each station, in each group.
     fn round<K, R: TwinRecorder<K>>(&mut self, recorder: &mut R, outlet: &mut K) -> Result<(), Halt>
         ensures { Did R.Took R.Broke round
@@ -74,22 +69,6 @@ impl Stage {
     {
         for station in 0..self.station_count() {
             self.tick_both(station, recorder, outlet)?;
-        }
-        Ok(())
-    }
-
-    /// So many rounds.
-    pub fn rounds<K, R: TwinRecorder<K>>(
-        &mut self,
-        count: u32,
-        recorder: &mut R,
-        outlet: &mut K,
-    ) -> Result<(), Halt>
-        ensures { Did R.Took R.Broke (times count round)
-            (moment self.old outlet.old) (moment self.new outlet.new) result }
-    {
-        for _ in 0..count {
-            self.round(recorder, outlet)?;
         }
         Ok(())
     }
@@ -263,21 +242,42 @@ impl Stage {
         self.spread_group(GroupNumber::Second, room, recorder, outlet)
     }
 
-    /// So many flow rounds. All their frames find those who joined in one room, so that no frame takes memory.
-    pub fn flow<K, R: TwinRecorder<K>>(
+    // ---- turns
+
+    /// So many turns. All their frames find those who joined in one room, so that no frame takes memory.
+    pub fn turns<K, R: TwinRecorder<K>>(
         &mut self,
+        turn: Turn,
         count: u32,
         recorder: &mut R,
         outlet: &mut K,
     ) -> Result<(), Halt>
-        ensures { Did R.Took R.Broke (times count flow_round)
+        ensures { Did R.Took R.Broke (times count (turn_of turn))
             (moment self.old outlet.old) (moment self.new outlet.new) result }
     {
         let mut room = Vec::new(self.alloc);
         for _ in 0..count {
-            self.flow_round(&mut room, recorder, outlet)?;
+            self.turn(turn, &mut room, recorder, outlet)?;
         }
         Ok(())
+    }
+
+    /// A turn.
+    fn turn<K, R: TwinRecorder<K>>(
+        &mut self,
+        turn: Turn,
+        room: &mut Vec<u8>,
+        recorder: &mut R,
+        outlet: &mut K,
+    ) -> Result<(), Halt>
+        ensures { Did R.Took R.Broke (turn_of turn)
+            (moment self.old outlet.old) (moment self.new outlet.new) result }
+    {
+        match turn {
+            Turn::Station(station) => self.tick_both(station, recorder, outlet),
+            Turn::Round => self.round(recorder, outlet),
+            Turn::FlowRound => self.flow_round(room, recorder, outlet),
+        }
     }
 }
 

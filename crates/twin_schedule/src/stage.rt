@@ -26,6 +26,7 @@ ghost use Rattle.twin_schedule.specs.inside.Choosing.{is_later, IsOpening, with_
 ghost use Rattle.twin_schedule.specs.inside.Doing.{halt_by, Did, Happened};
 
 use crate::choosing::opening_of;
+use crate::moves::Turn;
 use crate::party::Party;
 use crate::recorder::TwinRecorder;
 use crate::telling::{admit, put_all_senders, tell};
@@ -363,11 +364,14 @@ impl Stage {
                 sci,
                 priority,
             } => self.start(*name, *sci, *priority, recorder, outlet),
-            Line::Tick { rounds } => self.rounds(*rounds, recorder, outlet),
-            Line::TickOne { name, ticks } => {
-                self.ticks(self.place(name), *ticks, recorder, outlet)
-            }
-            Line::Flow { rounds } => self.flow(*rounds, recorder, outlet),
+            Line::Tick { rounds } => self.turns(Turn::Round, *rounds, recorder, outlet),
+            Line::TickOne { name, ticks } => self.turns(
+                Turn::Station(self.place(name)),
+                *ticks,
+                recorder,
+                outlet,
+            ),
+            Line::Flow { rounds } => self.turns(Turn::FlowRound, *rounds, recorder, outlet),
             Line::Cut { from, to } => {
                 self.cut(self.place(from), self.place(to))?;
                 Ok(())

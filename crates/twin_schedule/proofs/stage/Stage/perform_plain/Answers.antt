@@ -17,18 +17,18 @@ returns-in-Station g c =
 pub returns-in-Tick : goal.returns-in-Tick
 returns-in-Tick g c =
     same-line c.args.line.now (times c.in-Tick.rounds round) _ _ _ (λ w. rw c.in-Tick.is refl)
-    c.rounds.ensures
+    c.turns.ensures
 
 pub returns-in-Flow : goal.returns-in-Flow
 returns-in-Flow g c =
     same-line c.args.line.now (times c.in-Flow.rounds flow_round) _ _ _
-    (λ w. rw c.in-Flow.is refl) c.flow.ensures
+    (λ w. rw c.in-Flow.is refl) c.turns-in-Flow.ensures
 
 pub returns-in-TickOne : goal.returns-in-TickOne
 returns-in-TickOne g c =
     one-place (λ w. deed_plain c.args.line.now w) c.in-TickOne.name
     (λ s. times c.in-TickOne.ticks (tick_both s)) c.place.result _ _ _
-    (λ w. rw c.in-TickOne.is refl) c.place.ensures c.ticks.ensures
+    (λ w. rw c.in-TickOne.is refl) c.place.ensures c.turns-in-TickOne.ensures
 
 pub returns-in_ok-cut-in-Cut : goal.returns-in_ok-cut-in-Cut
 returns-in_ok-cut-in-Cut g c =
