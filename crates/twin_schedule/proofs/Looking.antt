@@ -1,7 +1,7 @@
 -- Acts that look at the world, begun from the groups at work.
 use Rattle.std.proofs.Common.{◌≡◌, ◌<◌, ◌≤◌, ℕ, zero, suc, ◌+◌, ◌-◌, List, [], ◌∷◌, ◌++◌, length}
 use Rattle.std.proofs.Common.{sym, ap, ◌∙◌, nat_eq, arith}
-use Rattle.std.specs.Prelude.{◌^◌}
+use Rattle.std.specs.Prelude.{◌^◌, Result}
 use Rattle.std.specs.List.{position_or_len, range_with_len}
 use Rattle.std.specs.Cmp.Lexicographic.{pointwise}
 use Rattle.std.proofs.lemmas.List.{length-map}
@@ -15,17 +15,19 @@ use Rattle.cak_roll.specs.declared.event.GroupNumber.{GroupNumber}
 use Rattle.cak_roll.specs.declared.event.GroupNumber.TheVariants.{First, Second}
 use Rattle.cak_roll.specs.Twin.{of_group, run_of, setting_of}
 use Rattle.cak_roll.proofs.Public.{few-stations, twin-stepped}
+use Rattle.trace_acts.specs.declared.halt.Halt.{Halt}
 use Rattle.lan_base.specs.declared.sink.Unwritten.{Unwritten}
 use Rattle.twin_schedule.specs.declared.party.Party.{Party}
 use Rattle.twin_schedule.specs.declared.stage.Stage.{Stage}
 use Rattle.twin_schedule.specs.World.{World, Kept, pair_of, count, place, frames, spread_in}
 use Rattle.twin_schedule.specs.World.{has_spread}
 use Rattle.twin_schedule.specs.Acts.{Act, change, look, seq, span}
-use Rattle.twin_schedule.specs.Lines.{spread}
+use Rattle.twin_schedule.specs.Lines.{spread, spread_group}
 use Rattle.twin_schedule.specs.Reports.{Report}
 use Rattle.twin_schedule.specs.Ends.{Moment, IsReached}
 use Rattle.twin_schedule.specs.Stages.{StandsFor, IsParty}
-use Rattle.twin_schedule.proofs.Doing.{Leads, look-leads}
+use Rattle.twin_schedule.specs.inside.Doing.{Did}
+use Rattle.twin_schedule.proofs.Doing.{Leads, look-does, look-leads}
 use Rattle.twin_schedule.proofs.Told.{senders-length}
 
 -- how many stations there are
@@ -109,7 +111,7 @@ frames-few g w stage reached =
     (twin-stepped (pair_of w) w.kept.users w.run g reached.tidy.legal)
 
 -- what a group has to spread is what is asked for
-pub spreads-here : (g : GroupNumber) (w : World) (stage : Stage) (first some : ℕ)
+spreads-here : (g : GroupNumber) (w : World) (stage : Stage) (first some : ℕ)
     → IsReached StandsFor w stage → first ≡ (of_group g stage.first stage.second).spread
     → (length (of_group g stage.first stage.second).senders.items < 2 ^ 32
     → some ≡ length (of_group g stage.first stage.second).senders.items)
@@ -126,6 +128,23 @@ spreads-here g w stage first some reached is_first is_some =
     a
     ∙ ap (λ (n : ℕ). seq (span (λ place. spread g (place + 1)) (spread_in g w.kept)
     (n - spread_in g w.kept)) (change (has_spread g n))) b
+
+module _ {K : Type 0} {Took : K → Report → K → Type 0} {Broke : K → Report → K → Unwritten → Type 0}
+  where
+    -- it is spread where what is asked for is
+    pub spread-does : (g : GroupNumber) (first some : ℕ) (old new : Moment Stage K)
+        (r : Result (Unit {0}) Halt) → first ≡ (of_group g old.value.first old.value.second).spread
+        → (length (of_group g old.value.first old.value.second).senders.items < 2 ^ 32
+        → some ≡ length (of_group g old.value.first old.value.second).senders.items)
+        → Did Took Broke (seq (span (λ place. spread g (place + 1)) first (some - first))
+        (change (has_spread g some))) old new r
+        → Did Took Broke (spread_group g) old new r
+    spread-does g first some old new r is_first is_some d =
+        look-does
+        (λ w. seq (span (λ place. spread g (place + 1)) (spread_in g w.kept)
+        (frames g w.run - spread_in g w.kept)) (change (has_spread g (frames g w.run))))
+        (seq (span (λ place. spread g (place + 1)) first (some - first)) (change (has_spread g some)))
+        old new r (λ w reached. spreads-here g w old.value first some reached is_first is_some) d
 
 -- so many numbers, and one more
 range-more : (a n : ℕ) → range_with_len a (n + 1) ≡ range_with_len a n ++ (a + n) ∷ []
