@@ -77,7 +77,7 @@ impl Members {
     {
         match group {
             GroupNumber::First => station,
-            GroupNumber::Second => few(position(&self.adopters, station)),
+            GroupNumber::Second => octet_of(position(&self.adopters, station)),
         }
     }
 
@@ -145,11 +145,11 @@ fn position(stations: &[u8], station: u8) -> usize
     stations.len()
 }
 
-/// A number of stations.
-fn few(count: usize) -> u8
-    ensures { count ≤ 255 → result ≡ count }
+/// A number of at most 255, as a count of stations is.
+fn octet_of(number: usize) -> u8
+    ensures { number ≤ 255 → result ≡ number }
 {
-    u8::try_from(count).unwrap_or(u8::MAX)
+    u8::try_from(number).unwrap_or(u8::MAX)
 }
 
 /// Whether a station left a group.

@@ -13,5 +13,5 @@ returns-in-Second c = λ pair users t run are.
     at ∙ ap (place_among c.args.station) st.adopters in
     let few = few-adopters pair users t run in
     let within = place-within c.args.station (adopters t) in
-    subst (λ g. c.few.result ≡ place_in g c.args.station t) (sym c.in-Second.is)
-    (c.few.ensures (omega (arith, few, within, is)) ∙ is)
+    subst (λ g. c.octet_of.result ≡ place_in g c.args.station t) (sym c.in-Second.is)
+    (c.octet_of.ensures (omega (arith, few, within, is)) ∙ is)
