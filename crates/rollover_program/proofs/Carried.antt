@@ -254,6 +254,15 @@ steady : Rose 0 0 → ⊥
 steady (inl less) = omega arith
 steady (inr most) = omega arith
 
+-- so a trace that is made never ends by a fault of its source
+pub try_reads : (n : ℕ) (old new : Sunk) (status : Status) → EndsTried n old new status → status ≡ ReadFault → ⊥
+try_reads n old new status h is =
+    let run = h.1 in
+    let at = caused run.0 ReadFault (λ e. cc e) (sym run.2 ∙ is) in
+    let read = subst (λ (r : Answer). EndsRun one_group IsPromised (shown_by true) (made n) (sourced (Some (made n)) 0)
+    (sourced h.0 0) old new r) at run.1 in
+    steady read.ends.0
+
 pub complete_try : (n : ℕ) (old new : Sunk) (status : Status) → EndsTried n old new status
     → (Rose old.faults new.faults → ⊥) → IsComplete (made n) status
 complete_try n old new status ends writes =

@@ -1,14 +1,13 @@
 //! The top call: words are read, and what they order is carried out.
 
-ghost use Rattle.std.specs.Prelude.{◌≡◌, ◌≢◌, ◌⊎◌, List, ℕ, Bool, Some, map, string_bytes};
+ghost use Rattle.std.specs.Prelude.{◌≡◌, ◌≢◌, ◌⊎◌, ℕ, Bool, map, string_bytes};
 ghost use Rattle.lan_base.specs.Faults.{Rose};
-ghost use Rattle.text_lines.specs.Reading.{sourced};
-ghost use Rattle.replay.specs.Sinks.{sunk};
 ghost use Rattle.capture_audit.specs.declared.asks.Asks.{Asks};
 ghost use Rattle.rollover_program.specs.declared.words.Order.{Order};
 ghost use Rattle.rollover_program.specs.declared.words.Order.TheVariants as orders;
 ghost use Rattle.rollover_program.specs.Words.{IsNumbered, IsUsage, Orders, words_of};
-ghost use Rattle.rollover_program.specs.Carried.{CarriesOut, Completes};
+ghost use Rattle.rollover_program.specs.Outside.{outside};
+ghost use Rattle.rollover_program.specs.Carried.{CarriesOut, Completes, IsCarriedOut};
 ghost use Rattle.rollover_program.specs.commands.Audit.{IsCompleteAudit};
 ghost use Rattle.rollover_program.specs.inside.Answering.{status_of_refusal};
 
@@ -73,10 +72,7 @@ pub fn rollover<T: Threads + Sync, S: Source, K: Sink>(
 
     // Whatever the end, what was read and written, and why it came, says each order's row.
     ensures carried { (order : Order) → Orders (map string_bytes words.now) order → CarriesOut order
-        (sourced (S.left source.old) (S.faults source.old))
-        (sourced (S.left source.new) (S.faults source.new))
-        (sunk (K.held sink.old) (K.faults sink.old))
-        (sunk (K.held sink.new) (K.faults sink.new)) result }
+        (outside S.Source K.Sink source.old source.new sink.old sink.new) result }
     ensures unread { (n : ℕ) → Orders (map string_bytes words.now) (orders.Make n)
         ⊎ Orders (map string_bytes words.now) (orders.Try n) → source.new ≡ source.old }
 
@@ -92,10 +88,7 @@ pub fn rollover<T: Threads + Sync, S: Source, K: Sink>(
 
     // Without a fault each order ends as its row says, unless memory runs out.
     ensures complete { (order : Order) → Orders (map string_bytes words.now) order → Completes order
-        (sourced (S.left source.old) (S.faults source.old))
-        (sourced (S.left source.new) (S.faults source.new))
-        (sunk (K.held sink.old) (K.faults sink.old))
-        (sunk (K.held sink.new) (K.faults sink.new)) result }
+        (outside S.Source K.Sink source.old source.new sink.old sink.new) result }
 {
     law_tidy_runs_are_promised();
     law_lines_leave_a_tidy_world();
@@ -116,21 +109,12 @@ fn carry_out<T: Threads + Sync, S: Source, K: Sink>(
     sink: &mut K,
     gate: &AnyGate,
 ) -> Status
-    ensures done { CarriesOut order
-        (sourced (S.left source.old) (S.faults source.old))
-        (sourced (S.left source.new) (S.faults source.new))
-        (sunk (K.held sink.old) (K.faults sink.old))
-        (sunk (K.held sink.new) (K.faults sink.new)) result }
-    ensures audited { (asks : Asks) (draws : Bool) (text : List ℕ) → order ≡ orders.Audit asks draws
-        → S.left source.old ≡ Some text → IsCompleteAudit asks text (S.faults source.old)
-        (S.faults source.new) (K.faults sink.old) (K.faults sink.new) result }
-    ensures carried { result ≢ Status.Usage }
+    ensures carried { IsCarriedOut order
+        (outside S.Source K.Sink source.old source.new sink.old sink.new) result }
+    ensures audited { (asks : Asks) (draws : Bool) → order ≡ orders.Audit asks draws → IsCompleteAudit asks
+        (outside S.Source K.Sink source.old source.new sink.old sink.new) result }
     ensures unread { (n : ℕ) → (order ≡ orders.Make n) ⊎ (order ≡ orders.Try n)
         → source.new ≡ source.old }
-    ensures read_cause { result ≡ Status.ReadFault
-        → Rose (S.faults source.old) (S.faults source.new) }
-    ensures write_cause { result ≡ Status.WriteFault
-        → Rose (K.faults sink.old) (K.faults sink.new) }
     ensures unforged { (line : ℕ) → order ≡ orders.Roll
         → result ≢ Status.Forged line }
 {

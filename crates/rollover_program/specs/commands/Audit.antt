@@ -15,6 +15,7 @@ use Rattle.audit_report.specs.Tallies.{tally_of}
 use Rattle.audit_report.specs.Verdicts.{doubt}
 use Rattle.audit_report.specs.declared.ending.Ending.TheVariants.{Whole}
 use Rattle.key_ring.specs.Rings.{Ring}
+use Rattle.rollover_program.specs.Outside.{Outside}
 use Rattle.rollover_program.specs.commands.Draw.{Shows}
 use Rattle.rollover_program.specs.declared.status.Status.{Status}
 use Rattle.rollover_program.specs.declared.status.Status.TheVariants.{Done, KeyLine, CaptureRefuted, CaptureDoubted, Packets, CaptureInput, Keys, ReadFault, WriteFault, Memory}
@@ -76,10 +77,9 @@ abbrev pub IsJudgedWhole : Asks → List ℕ → Status → Type 0
 IsJudgedWhole asks text status = (ring : Ring) (packets : List Unwrapped)
     → IsRead text (Some []) ring packets Whole → EndsJudged asks ring packets status
 
--- Such a text is, without a fault, unless memory runs out. The counts are those of the source and of the
--- sink, before and now.
-abbrev pub IsCompleteAudit : Asks → List ℕ → ℕ → ℕ → ℕ → ℕ → Status → Type 0
-IsCompleteAudit asks text source source_now sink sink_now status =
-    (ring : Ring) (packets : List Unwrapped) → IsRead text (Some []) ring packets Whole
-    → (Rose source source_now → ⊥) → (Rose sink sink_now → ⊥)
+-- such a text, where the source tells it, is without a fault, unless memory runs out
+abbrev pub IsCompleteAudit : Asks → Outside → Status → Type 0
+IsCompleteAudit asks o status = (text : List ℕ) → o.left.left ≡ Some text
+    → (ring : Ring) (packets : List Unwrapped) → IsRead text (Some []) ring packets Whole
+    → (Rose o.left.faults o.now.faults → ⊥) → (Rose o.old.faults o.new.faults → ⊥)
     → EndsJudged asks ring packets status ⊎ (status ≡ Memory)

@@ -1,10 +1,11 @@
 //! `audit`: a capture of a protected LAN is judged with its keys.
 
-ghost use Rattle.std.specs.Prelude.{◌≡◌, ◌≢◌, List, ℕ, Some, Ok};
-ghost use Rattle.lan_base.specs.Faults.{Rose};
+ghost use Rattle.std.specs.Prelude.{◌≡◌, true, false, Ok};
 ghost use Rattle.replay.specs.Sinks.{sunk};
-ghost use Rattle.rollover_program.specs.declared.status.Status.TheVariants as statuses;
-ghost use Rattle.rollover_program.specs.commands.Audit.{EndsAsAudit, EndsAsView, IsCompleteAudit, ShowsSeen, status_of_audit};
+ghost use Rattle.rollover_program.specs.declared.words.Order.TheVariants as orders;
+ghost use Rattle.rollover_program.specs.Outside.{outside};
+ghost use Rattle.rollover_program.specs.Carried.{IsCarriedOut};
+ghost use Rattle.rollover_program.specs.commands.Audit.{IsCompleteAudit, ShowsSeen, status_of_audit};
 
 use crate::commands::draw::show;
 use crate::status::Status;
@@ -23,16 +24,10 @@ pub fn audit<T: Threads + Sync, S: Source, K: Sink>(
     source: &mut S,
     sink: &mut K,
 ) -> Status
-    ensures ends { (text : List ℕ) → S.left source.old ≡ Some text
-        → EndsAsAudit asks text (S.left source.new) (Rose (S.faults source.old) (S.faults source.new))
-        (K.held sink.old) (K.held sink.new) result }
-    ensures complete { (text : List ℕ) → S.left source.old ≡ Some text → IsCompleteAudit asks text
-        (S.faults source.old) (S.faults source.new) (K.faults sink.old) (K.faults sink.new) result }
-    ensures carried { result ≢ statuses.Usage }
-    ensures read_cause { result ≡ statuses.ReadFault
-        → Rose (S.faults source.old) (S.faults source.new) }
-    ensures write_cause { result ≡ statuses.WriteFault
-        → Rose (K.faults sink.old) (K.faults sink.new) }
+    ensures carried { IsCarriedOut (orders.Audit asks false)
+        (outside S.Source K.Sink source.old source.new sink.old sink.new) result }
+    ensures complete { IsCompleteAudit asks
+        (outside S.Source K.Sink source.old source.new sink.old sink.new) result }
 {
     status_of_audit(capture_audit::audit(rt, alloc, asks, source, sink))
 }
@@ -46,16 +41,10 @@ pub fn draw_audit<T: Threads + Sync, S: Source, K: Sink>(
     source: &mut S,
     sink: &mut K,
 ) -> Status
-    ensures ends { (text : List ℕ) → S.left source.old ≡ Some text
-        → EndsAsView asks text (S.left source.new) (Rose (S.faults source.old) (S.faults source.new))
-        (sunk (K.held sink.old) (K.faults sink.old)) (sunk (K.held sink.new) (K.faults sink.new)) result }
-    ensures complete { (text : List ℕ) → S.left source.old ≡ Some text → IsCompleteAudit asks text
-        (S.faults source.old) (S.faults source.new) (K.faults sink.old) (K.faults sink.new) result }
-    ensures carried { result ≢ statuses.Usage }
-    ensures read_cause { result ≡ statuses.ReadFault
-        → Rose (S.faults source.old) (S.faults source.new) }
-    ensures write_cause { result ≡ statuses.WriteFault
-        → Rose (K.faults sink.old) (K.faults sink.new) }
+    ensures carried { IsCarriedOut (orders.Audit asks true)
+        (outside S.Source K.Sink source.old source.new sink.old sink.new) result }
+    ensures complete { IsCompleteAudit asks
+        (outside S.Source K.Sink source.old source.new sink.old sink.new) result }
 {
     match view_audit(rt, alloc, source) {
         Ok(view) => show_view(alloc, asks, &view, sink),

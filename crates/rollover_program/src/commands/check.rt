@@ -1,11 +1,11 @@
 //! `check`: a transcript is judged.
 
-ghost use Rattle.std.specs.Prelude.{◌≡◌, ◌≢◌, List, ℕ, Some};
-ghost use Rattle.lan_base.specs.Faults.{Rose};
-ghost use Rattle.text_lines.specs.Reading.{sourced};
+ghost use Rattle.std.specs.Prelude.{◌≡◌};
 ghost use Rattle.replay.specs.Sinks.{sunk};
-ghost use Rattle.rollover_program.specs.declared.status.Status.TheVariants as statuses;
-ghost use Rattle.rollover_program.specs.commands.Check.{EndsAsCheck, Tells, status_of, told};
+ghost use Rattle.rollover_program.specs.declared.words.Order.TheVariants as orders;
+ghost use Rattle.rollover_program.specs.Outside.{outside};
+ghost use Rattle.rollover_program.specs.Carried.{IsCarriedOut};
+ghost use Rattle.rollover_program.specs.commands.Check.{Tells, status_of, told};
 
 use crate::status::{Status, status_of_unwritten};
 use lan_base::{Sink, Source, write_all};
@@ -15,16 +15,8 @@ use transcript_check::{CheckFault, Verdict, judge};
 
 /// Judges a transcript, and writes the verdict at its end.
 pub fn check<S: Source, K: Sink>(alloc: Global, source: &mut S, sink: &mut K) -> Status
-    ensures ends { (text : List ℕ) → S.left source.old ≡ Some text → EndsAsCheck text
-        (sourced (S.left source.old) (S.faults source.old))
-        (sourced (S.left source.new) (S.faults source.new))
-        (sunk (K.held sink.old) (K.faults sink.old))
-        (sunk (K.held sink.new) (K.faults sink.new)) result }
-    ensures carried { result ≢ statuses.Usage }
-    ensures read_cause { result ≡ statuses.ReadFault
-        → Rose (S.faults source.old) (S.faults source.new) }
-    ensures write_cause { result ≡ statuses.WriteFault
-        → Rose (K.faults sink.old) (K.faults sink.new) }
+    ensures { IsCarriedOut orders.Check
+        (outside S.Source K.Sink source.old source.new sink.old sink.new) result }
 {
     match judge(alloc, source) {
         Ok(verdict) => tell(alloc, &verdict, sink),

@@ -1,9 +1,10 @@
 //! `dissect`: each packet of a file of captured packets is told in one line.
 
-ghost use Rattle.std.specs.Prelude.{◌≡◌, ◌≢◌, List, ℕ, Some};
-ghost use Rattle.lan_base.specs.Faults.{Rose};
-ghost use Rattle.rollover_program.specs.declared.status.Status.TheVariants as statuses;
-ghost use Rattle.rollover_program.specs.commands.Dissect.{EndsAsDissect, status_of_telling};
+ghost use Rattle.std.specs.Prelude.{◌≡◌};
+ghost use Rattle.rollover_program.specs.declared.words.Order.TheVariants as orders;
+ghost use Rattle.rollover_program.specs.Outside.{outside};
+ghost use Rattle.rollover_program.specs.Carried.{IsCarriedOut};
+ghost use Rattle.rollover_program.specs.commands.Dissect.{status_of_telling};
 
 use crate::status::Status;
 use capture_file::CaptureFault;
@@ -13,13 +14,8 @@ use text_lines::Unfinished;
 
 /// Tells each packet of a file of captured packets in one line.
 pub fn dissect<S: Source, K: Sink>(alloc: Global, source: &mut S, sink: &mut K) -> Status
-    ensures ends { (file : List ℕ) → S.left source.old ≡ Some file → EndsAsDissect file
-        (S.left source.new) (K.held sink.old) (K.held sink.new) result }
-    ensures carried { result ≢ statuses.Usage }
-    ensures read_cause { result ≡ statuses.ReadFault
-        → Rose (S.faults source.old) (S.faults source.new) }
-    ensures write_cause { result ≡ statuses.WriteFault
-        → Rose (K.faults sink.old) (K.faults sink.new) }
+    ensures { IsCarriedOut orders.Dissect
+        (outside S.Source K.Sink source.old source.new sink.old sink.new) result }
 {
     status_of_telling(packet_lines::dissect(alloc, source, sink))
 }

@@ -1,11 +1,10 @@
 //! `draw`: the picture of a transcript's keys is written.
 
-ghost use Rattle.std.specs.Prelude.{◌≡◌, ◌≢◌, List, ℕ, Some};
-ghost use Rattle.lan_base.specs.Faults.{Rose};
-ghost use Rattle.text_lines.specs.Reading.{sourced};
 ghost use Rattle.replay.specs.Sinks.{sunk};
-ghost use Rattle.rollover_program.specs.declared.status.Status.TheVariants as statuses;
-ghost use Rattle.rollover_program.specs.commands.Draw.{EndsAsDraw, Shows};
+ghost use Rattle.rollover_program.specs.declared.words.Order.TheVariants as orders;
+ghost use Rattle.rollover_program.specs.Outside.{outside};
+ghost use Rattle.rollover_program.specs.Carried.{IsCarriedOut};
+ghost use Rattle.rollover_program.specs.commands.Draw.{Shows};
 
 use crate::commands::check::status_of;
 use crate::status::{Status, status_of_unwritten};
@@ -14,16 +13,8 @@ use std::alloc::Global;
 
 /// Reads a transcript, and writes the picture of its keys at its end.
 pub fn draw<S: Source, K: Sink>(alloc: Global, source: &mut S, sink: &mut K) -> Status
-    ensures ends { (text : List ℕ) → S.left source.old ≡ Some text → EndsAsDraw text
-        (sourced (S.left source.old) (S.faults source.old))
-        (sourced (S.left source.new) (S.faults source.new))
-        (sunk (K.held sink.old) (K.faults sink.old))
-        (sunk (K.held sink.new) (K.faults sink.new)) result }
-    ensures carried { result ≢ statuses.Usage }
-    ensures read_cause { result ≡ statuses.ReadFault
-        → Rose (S.faults source.old) (S.faults source.new) }
-    ensures write_cause { result ≡ statuses.WriteFault
-        → Rose (K.faults sink.old) (K.faults sink.new) }
+    ensures { IsCarriedOut orders.Draw
+        (outside S.Source K.Sink source.old source.new sink.old sink.new) result }
 {
     match transcript_picture::draw(alloc, source) {
         Ok(picture) => show(picture.as_slice(), sink),

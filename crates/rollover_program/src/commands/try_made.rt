@@ -26,7 +26,7 @@ pub fn try_made<T: Threads + Sync, K: Sink>(
 ) -> Status
     ensures ends { EndsTried number (sunk (K.held sink.old) (K.faults sink.old))
         (sunk (K.held sink.new) (K.faults sink.new)) result }
-    ensures carried { result ≢ statuses.Usage }
+    ensures no_usage { result ≢ statuses.Usage }
     ensures write_cause { result ≡ statuses.WriteFault
         → Rose (K.faults sink.old) (K.faults sink.new) }
 {

@@ -1,33 +1,32 @@
 use Rattle.std.proofs.Common.{ap, sym, refl, inr, ◌∙◌}
 use Rattle.std.specs.Prelude.{Err}
-use Rattle.text_lines.specs.Reading.{sourced}
-use Rattle.replay.specs.Sinks.{sunk}
 use Rattle.rollover_program.specs.declared.status.Status.TheVariants.{ReadFault, WriteFault, Forged}
 use Rattle.rollover_program.specs.declared.words.Order.TheVariants.{Roll}
+use Rattle.rollover_program.specs.Outside.{outside}
 use Rattle.rollover_program.proofs.Ordered.{by_no_usage}
 use Rattle.rollover_program.proofs.Refused.{plain_orders, either, usage_only, neither, memory}
 use Rattle.rollover_program.proofs.Orders.{completes, either_order, nothing_done, one_order}
 use Rattle.rollover_program.proofs.top.rollover.Goals as goal
 
 pub returns-in-Ok-clause-usage : goal.returns-in-Ok-clause-usage
-returns-in-Ok-clause-usage g c = λ e. absurd (c.carry_out.ensures.carried e)
+returns-in-Ok-clause-usage g c = λ e. absurd (c.carry_out.ensures.carried.no_usage e)
 
 pub returns-in-Ok-clause-refused : goal.returns-in-Ok-clause-refused
 returns-in-Ok-clause-refused g c = λ usage. absurd (usage c.in-Ok.ensures.ok.0)
 
 pub returns-in-Ok-clause-untouched : goal.returns-in-Ok-clause-untouched
-returns-in-Ok-clause-untouched g c = λ e. absurd (c.carry_out.ensures.carried e)
+returns-in-Ok-clause-untouched g c = λ e. absurd (c.carry_out.ensures.carried.no_usage e)
 
 pub returns-in-Ok-clause-ordered : goal.returns-in-Ok-clause-ordered
 returns-in-Ok-clause-ordered g c = λ taken. by_no_usage _ taken
 
 pub returns-in-Ok-clause-named : goal.returns-in-Ok-clause-named
 returns-in-Ok-clause-named g c = λ order numbered is.
-    (plain_orders _ order numbered is, λ e. c.carry_out.ensures.carried e)
+    (plain_orders _ order numbered is, λ e. c.carry_out.ensures.carried.no_usage e)
 
 pub returns-in-Ok-clause-carried : goal.returns-in-Ok-clause-carried
 returns-in-Ok-clause-carried g c = λ order asked.
-    rw (one_order _ order c.in-Ok.order asked c.in-Ok.ensures.ok) c.carry_out.ensures.done
+    rw (one_order _ order c.in-Ok.order asked c.in-Ok.ensures.ok) c.carry_out.ensures.carried.ends
 
 pub returns-in-Ok-clause-unread : goal.returns-in-Ok-clause-unread
 returns-in-Ok-clause-unread g c = λ n asked.
@@ -41,11 +40,8 @@ pub returns-in-Ok-clause-complete : goal.returns-in-Ok-clause-complete
 returns-in-Ok-clause-complete g c = λ order asked.
     let out = c.carry_out.ensures in
     rw (one_order _ order c.in-Ok.order asked c.in-Ok.ensures.ok)
-    (completes (sourced (g.S.Source.left c.args.source.now) (g.S.Source.faults c.args.source.now))
-    (sourced (g.S.Source.left c.carry_out.new.source) (g.S.Source.faults c.carry_out.new.source))
-    (sunk (g.K.Sink.held c.args.sink.now) (g.K.Sink.faults c.args.sink.now))
-    (sunk (g.K.Sink.held c.carry_out.new.sink) (g.K.Sink.faults c.carry_out.new.sink)) c.carry_out.result
-    out.read_cause out.write_cause c.in-Ok.order out.done out.audited)
+    (completes (outside g.S.Source g.K.Sink c.args.source.now c.carry_out.new.source c.args.sink.now c.carry_out.new.sink)
+    c.carry_out.result c.in-Ok.order out.carried out.audited)
 
 pub returns-in-Err-clause-usage : goal.returns-in-Err-clause-usage
 returns-in-Err-clause-usage g c = λ e.

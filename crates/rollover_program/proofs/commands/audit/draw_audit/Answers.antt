@@ -7,31 +7,26 @@ use Rattle.rollover_program.proofs.Audited.{audit_no_usage, audit_read, audit_wr
 use Rattle.rollover_program.proofs.Viewed.{end_fault, end_is, end_unwritten, view_complete, view_read, view_usage, view_write}
 use Rattle.rollover_program.proofs.commands.audit.draw_audit.Goals as goal
 
-pub returns-in-Ok-clause-read_cause : goal.returns-in-Ok-clause-read_cause
-returns-in-Ok-clause-read_cause g c = λ e.
-    let view = c.in-Ok.view in
-    c.in-Ok.ensures.fault (end_fault (blame c.args.asks.strict view.tally view.verdict) view.ending
-    (view_read c.args.asks view _ _ c.show_view.result c.show_view.ensures e))
-
 pub returns-in-Ok-clause-carried : goal.returns-in-Ok-clause-carried
-returns-in-Ok-clause-carried g c = λ e.
-    view_usage c.args.asks c.in-Ok.view _ _ c.show_view.result c.show_view.ensures e
-
-pub returns-in-Ok-clause-write_cause : goal.returns-in-Ok-clause-write_cause
-returns-in-Ok-clause-write_cause g c = λ e.
+returns-in-Ok-clause-carried g c =
+    let asks = c.args.asks in
     let view = c.in-Ok.view in
-    elim (view_write c.args.asks view _ _ c.show_view.result c.show_view.ensures e) [
-      | inl rose ↦ rose
-      | inr end ↦ absurd (end_unwritten (blame c.args.asks.strict view.tally view.verdict) view.ending end)
-    ]
-
-pub returns-in-Ok-clause-ends : goal.returns-in-Ok-clause-ends
-returns-in-Ok-clause-ends g c = λ text told. (
-  Ok c.in-Ok.view,
-  c.in-Ok.ensures.views text told,
-  c.in-Ok.ensures.audited c.args.asks text told,
-  c.show_view.ensures,
-)
+    let blamed = blame asks.strict view.tally view.verdict in
+    let status = c.show_view.result in record {
+      ends = λ text told. (
+        Ok view,
+        c.in-Ok.ensures.views text told,
+        c.in-Ok.ensures.audited asks text told,
+        c.show_view.ensures,
+      );
+      no_usage = λ e. view_usage asks view _ _ status c.show_view.ensures e;
+      read_cause = λ e. c.in-Ok.ensures.fault
+          (end_fault blamed view.ending (view_read asks view _ _ status c.show_view.ensures e));
+      write_cause = λ e. elim (view_write asks view _ _ status c.show_view.ensures e) [
+        | inl rose ↦ rose
+        | inr end ↦ absurd (end_unwritten blamed view.ending end)
+      ];
+    }
 
 pub returns-in-Ok-clause-complete : goal.returns-in-Ok-clause-complete
 returns-in-Ok-clause-complete g c = λ text told ring packets read reads writes.
@@ -44,13 +39,22 @@ returns-in-Ok-clause-complete g c = λ text told ring packets read reads writes.
     (λ i j broken. c.in-Ok.ensures.broken c.args.asks text ring packets i j told read broken)
     (λ none. c.in-Ok.ensures.clean c.args.asks text ring packets told read none))
 
-pub returns-in-Err-clause-ends : goal.returns-in-Err-clause-ends
-returns-in-Err-clause-ends g c = λ text told. (
-  Err c.in-Err.end,
-  c.in-Err.ensures.views text told,
-  c.in-Err.ensures.audited c.args.asks text told,
-  (c.status_of_audit.ensures, refl),
-)
+pub returns-in-Err-clause-carried : goal.returns-in-Err-clause-carried
+returns-in-Err-clause-carried g c = record {
+  ends = λ text told. (
+    Err c.in-Err.end,
+    c.in-Err.ensures.views text told,
+    c.in-Err.ensures.audited c.args.asks text told,
+    (c.status_of_audit.ensures, refl),
+  );
+  no_usage = λ e. audit_no_usage (Err c.in-Err.end) (sym c.status_of_audit.ensures ∙ e);
+  read_cause = λ e.
+      c.in-Err.ensures.read_fault (ap (λ (x : AuditEnd). Err x) (end_is c.in-Err.end ends.ReadFault
+      (audit_read (Err c.in-Err.end) (sym c.status_of_audit.ensures ∙ e))));
+  write_cause = λ e.
+      absurd (c.in-Err.ensures.unwritten (ap (λ (x : AuditEnd). Err x) (end_is c.in-Err.end ends.WriteFault
+      (audit_write (Err c.in-Err.end) (sym c.status_of_audit.ensures ∙ e)))));
+}
 
 pub returns-in-Err-clause-complete : goal.returns-in-Err-clause-complete
 returns-in-Err-clause-complete g c = λ text told ring packets read reads writes. rw c.status_of_audit.ensures
@@ -59,16 +63,3 @@ returns-in-Err-clause-complete g c = λ text told ring packets read reads writes
     (λ e. c.in-Err.ensures.unwritten (ap (λ (x : AuditEnd). Err x) (end_is c.in-Err.end ends.WriteFault e)))
     (λ i j broken. c.in-Err.ensures.broken c.args.asks text ring packets i j told read broken)
     (λ none. c.in-Err.ensures.clean c.args.asks text ring packets told read none))
-
-pub returns-in-Err-clause-carried : goal.returns-in-Err-clause-carried
-returns-in-Err-clause-carried g c = λ e. audit_no_usage (Err c.in-Err.end) (sym c.status_of_audit.ensures ∙ e)
-
-pub returns-in-Err-clause-read_cause : goal.returns-in-Err-clause-read_cause
-returns-in-Err-clause-read_cause g c = λ e.
-    c.in-Err.ensures.read_fault (ap (λ (x : AuditEnd). Err x) (end_is c.in-Err.end ends.ReadFault
-    (audit_read (Err c.in-Err.end) (sym c.status_of_audit.ensures ∙ e))))
-
-pub returns-in-Err-clause-write_cause : goal.returns-in-Err-clause-write_cause
-returns-in-Err-clause-write_cause g c = λ e.
-    absurd (c.in-Err.ensures.unwritten (ap (λ (x : AuditEnd). Err x) (end_is c.in-Err.end ends.WriteFault
-    (audit_write (Err c.in-Err.end) (sym c.status_of_audit.ensures ∙ e)))))
