@@ -1,5 +1,6 @@
 -- How an audit ends, and what was written.
-use Rattle.std.specs.Prelude.{[], ◌≡◌, ◌⊎◌, ℕ, ◌<◌, Bool, true, List, ◌++◌, length, All, Option, Result, Ok, Err}
+use Rattle.std.specs.Prelude.{[], ◌≡◌, ◌⊎◌, ℕ, ◌<◌, ◌≤◌, Bool, true, List, ◌++◌, length, All, Option, Result, Ok, Err}
+use Rattle.lan_base.specs.Faults.{Rose}
 use Rattle.lan_base.specs.Told.{after}
 use Rattle.known_keys.specs.History.{keys}
 use Rattle.known_keys.specs.OneKey.{BreaksOneKey}
@@ -142,3 +143,8 @@ IsDoubted asks result = ⊥
 abbrev pub IsOfOutside : Asks → Type 0 → Result (Unit {0}) AuditEnd → Type 0
 IsOfOutside asks failed result = (result ≡ Err ends.ReadFault) ⊎ ((result ≡ Err ends.WriteFault)
     ⊎ ((result ≡ Err ends.Memory) ⊎ (IsDoubted asks result × failed)))
+
+-- A count of faults, before and now: it rose where this is the answer, and it never falls.
+pub record RisesAt {A : Type 0} (answer : A) (before now : ℕ) (result : A) : Type 0 where
+  pub rose : result ≡ answer → Rose before now
+  pub counts : before ≤ now

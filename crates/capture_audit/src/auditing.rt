@@ -9,7 +9,7 @@ ghost use Rattle.key_ring.specs.Rings.{Ring};
 ghost use Rattle.lan_base.specs.Faults.{Rose};
 ghost use Rattle.capture_audit.specs.declared.end.AuditEnd.TheVariants as ends;
 ghost use Rattle.capture_audit.specs.Before.{Unwrapped};
-ghost use Rattle.capture_audit.specs.Ends.{EndsAudit, IsBroken, IsOfOutside, end_at, end_for, end_of};
+ghost use Rattle.capture_audit.specs.Ends.{EndsAudit, IsBroken, IsOfOutside, RisesAt, end_at, end_for, end_of};
 ghost use Rattle.capture_audit.specs.Reading.{IsRead};
 ghost use Rattle.capture_audit.specs.Telling.{all_told};
 ghost use Rattle.capture_audit.specs.inside.Auditing.{CanRead, HasRead, IsAuditing, IsHeadRead, OpensFile};
@@ -47,12 +47,8 @@ pub fn audit<T: Threads + Sync, S: Source, K: Sink>(
         (K.held sink.old) (K.held sink.new) result }
 
     // Faults are those of the outside.
-    ensures read_fault { result ≡ Err ends.ReadFault
-        → Rose (S.faults source.old) (S.faults source.new) }
-    ensures write_fault { result ≡ Err ends.WriteFault
-        → Rose (K.faults sink.old) (K.faults sink.new) }
-    ensures reads { S.faults source.old ≤ S.faults source.new }
-    ensures writes { K.faults sink.old ≤ K.faults sink.new }
+    ensures read_fault { RisesAt (Err ends.ReadFault) (S.faults source.old) (S.faults source.new) result }
+    ensures write_fault { RisesAt (Err ends.WriteFault) (K.faults sink.old) (K.faults sink.new) result }
 
     // Of a text whose packets can be read to their end nothing is missed: where a pair of them breaks
     // it is refuted, and else it ends as the frames that are asked about decide, but for faults of the
@@ -87,12 +83,8 @@ fn audit_with<T: Threads + Sync, S: Source, K: Sink>(
     ensures audited { (text : List ℕ) → ReadsRing text (S.left source.old) (Ok (ring, supply))
         → EndsAudit asks text (S.left source.new) (Rose (S.faults source.old) (S.faults source.new))
         (K.held sink.old) (K.held sink.new) result }
-    ensures read_fault { result ≡ Err ends.ReadFault
-        → Rose (S.faults source.old) (S.faults source.new) }
-    ensures write_fault { result ≡ Err ends.WriteFault
-        → Rose (K.faults sink.old) (K.faults sink.new) }
-    ensures reads { S.faults source.old ≤ S.faults source.new }
-    ensures writes { K.faults sink.old ≤ K.faults sink.new }
+    ensures read_fault { RisesAt (Err ends.ReadFault) (S.faults source.old) (S.faults source.new) result }
+    ensures write_fault { RisesAt (Err ends.WriteFault) (K.faults sink.old) (K.faults sink.new) result }
 {
     let mut text = Vec::new(alloc);
     let mut auditor = Auditor::of(alloc, ring, &mut text)?;
@@ -120,10 +112,8 @@ fn audit_capture<T: Threads + Sync, S: Source, K: Sink>(
         (K.held sink.old) (K.held sink.new) result }
     ensures read_fault { (shows : Bool) (ring : Ring) → StandsAt shows ring [] [] [] auditor.old batch.old
         → result ≡ Err ends.ReadFault → Rose (S.faults source.old) (S.faults source.new) }
-    ensures write_fault { result ≡ Err ends.WriteFault
-        → Rose (K.faults sink.old) (K.faults sink.new) }
     ensures reads { S.faults source.old ≤ S.faults source.new }
-    ensures writes { K.faults sink.old ≤ K.faults sink.new }
+    ensures write_fault { RisesAt (Err ends.WriteFault) (K.faults sink.old) (K.faults sink.new) result }
 {
     let mut reader = open(batch.alloc, supply, source)?;
     audit_packets(rt, asks, &mut reader, source, auditor, batch, sink)
@@ -137,9 +127,7 @@ pub(crate) fn open<S: Source>(
 ) -> Result<PacketReader, AuditEnd>
     ensures opens { (text : List ℕ) (ring : Ring) → ReadsRing text (S.left source.old) (Ok (ring, supply))
         → OpensFile text (S.left source.new) result }
-    ensures read_fault { result ≡ Err ends.ReadFault
-        → Rose (S.faults source.old) (S.faults source.new) }
-    ensures reads { S.faults source.old ≤ S.faults source.new }
+    ensures read_fault { RisesAt (Err ends.ReadFault) (S.faults source.old) (S.faults source.new) result }
     ensures unwritten { result ≢ Err ends.WriteFault }
 {
     let Some(supply) = supply else {
@@ -167,10 +155,8 @@ fn audit_packets<T: Threads + Sync, S: Source, K: Sink>(
     ensures read_fault { (shows : Bool) (ring : Ring) (held : Option (List ℕ))
         → IsAuditing shows ring None held reader.old (S.left source.old) (K.held sink.old) auditor.old batch.old
         → result ≡ Err ends.ReadFault → Rose (S.faults source.old) (S.faults source.new) }
-    ensures write_fault { result ≡ Err ends.WriteFault
-        → Rose (K.faults sink.old) (K.faults sink.new) }
     ensures reads { S.faults source.old ≤ S.faults source.new }
-    ensures writes { K.faults sink.old ≤ K.faults sink.new }
+    ensures write_fault { RisesAt (Err ends.WriteFault) (K.faults sink.old) (K.faults sink.new) result }
 {
     batch.write(sink)?;
     let ending = read_packets(rt, batch.alloc, reader, source, auditor, batch, sink)?;
@@ -190,9 +176,7 @@ fn report<K: Sink>(
         → HasRead asks.shows ring (Some text) held ending left (K.held sink.old) auditor.now batch.old
         → EndsAudit asks text left (Rose faults faults_then) held (K.held sink.new) result }
     ensures read_fault { result ≡ Err ends.ReadFault → ending ≡ endings.Fault }
-    ensures write_fault { result ≡ Err ends.WriteFault
-        → Rose (K.faults sink.old) (K.faults sink.new) }
-    ensures writes { K.faults sink.old ≤ K.faults sink.new }
+    ensures write_fault { RisesAt (Err ends.WriteFault) (K.faults sink.old) (K.faults sink.new) result }
 {
     let verdict = auditor.verdict()?;
     write_end(&auditor.tally, &verdict, ending, batch, sink)?;

@@ -7,18 +7,15 @@ ghost use Rattle.key_ring.specs.Rings.{Ring};
 ghost use Rattle.known_keys.specs.History.{Entry, keys};
 ghost use Rattle.known_keys.specs.Standing.{StandsFor as KnownStandsFor};
 ghost use Rattle.known_keys.specs.Undecided.{undecided};
-ghost use Rattle.member_notes.specs.declared.mkpdu.RightMkpdu.{RightMkpdu};
-ghost use Rattle.packet_verdicts.specs.Groups.{GroupKeys};
 ghost use Rattle.packet_verdicts.specs.declared.kind.Mka.TheVariants.{Right};
 ghost use Rattle.packet_verdicts.specs.Kinds.{FitsMka};
-ghost use Rattle.use_notes.specs.declared.frame.RightFrame.{RightFrame};
 ghost use Rattle.use_notes.specs.Frames.{IsBehind};
 ghost use Rattle.capture_audit.specs.declared.end.AuditEnd.TheVariants as ends;
 ghost use Rattle.capture_audit.specs.Before.{Unwrapped, number_behind, right_under};
 ghost use Rattle.capture_audit.specs.Findings.{not_right};
 ghost use Rattle.known_keys.specs.Numbered.{most_keys};
 ghost use Rattle.capture_audit.specs.Telling.{IsVerdict, numbered_hand};
-ghost use Rattle.capture_audit.specs.inside.Keeping.{EndsOf, Finds, Handles, Holds, IsFound, IsOfGroup, IsSound, IsWithin, Keeps, NotesFrame, NotesSec, SetsKeys, Settles};
+ghost use Rattle.capture_audit.specs.inside.Keeping.{EndsOf, Finds, Handles, IsFound, IsOfGroup, IsSound, IsWithin, Keeps, NotesFrame, NotesSec, OfHeld, SetsKeys, Settles};
 
 use crate::end::AuditEnd;
 use crate::handing::{hand, show};
@@ -152,10 +149,8 @@ impl Auditor {
     ) -> Result<Finding, AllocError>
         requires { self.old.known.firsts.last < packet }
         ensures within { OnOk result (IsWithin packet self.old self.new) }
-        ensures notes { (groups : List GroupKeys) (told : List Entry) (rights : List RightFrame)
-            (spelled : List RightMkpdu) → Holds groups told rights spelled self.old
-            → IsBehind packet rights
-            → IfOk result (NotesSec groups told rights spelled packet head.now.nanos newest sec.now self.new) }
+        ensures notes { OfHeld self.old (λ groups told rights spelled. IsBehind packet rights
+            → IfOk result (NotesSec groups told rights spelled packet head.now.nanos newest sec.now self.new)) }
     {
         match sec {
             Sec::Cut => Ok(Finding::SecCut),
@@ -178,11 +173,9 @@ impl Auditor {
     ) -> Result<Finding, AllocError>
         requires { self.old.known.firsts.last < packet }
         ensures within { OnOk result (IsWithin packet self.old self.new) }
-        ensures notes { (groups : List GroupKeys) (told : List Entry) (rights : List RightFrame)
-            (spelled : List RightMkpdu) → Holds groups told rights spelled self.old
-            → IsBehind packet rights
+        ensures notes { OfHeld self.old (λ groups told rights spelled. IsBehind packet rights
             → IfOk result (NotesFrame groups told rights spelled
-            (right_under packet head.now.nanos tag.now check key) self.new) }
+            (right_under packet head.now.nanos tag.now check key) self.new)) }
     {
         let frame = RightFrame {
             packet,
@@ -214,10 +207,8 @@ impl Auditor {
         requires few { length self.old.groups < 2 ^ 32 }
         requires group { FitsMka self.old.groups mka.now }
         ensures within { OnOk result (IsWithin packet self.old self.new) }
-        ensures handles { (groups : List GroupKeys) (told : List Entry) (rights : List RightFrame)
-            (spelled : List RightMkpdu) → Holds groups told rights spelled self.old
-            → length (keys told) ≤ most_keys
-            → Handles groups told rights spelled packet nanos mka.now self.old self.new result }
+        ensures handles { OfHeld self.old (λ groups told rights spelled. length (keys told) ≤ most_keys
+            → Handles groups told rights spelled packet nanos mka.now self.old self.new result) }
         ensures ends { result ≢ Err ends.WriteFault }
     {
         match mka {
@@ -244,10 +235,8 @@ impl Auditor {
         requires few { length self.old.groups < 2 ^ 32 }
         requires group { FitsMka self.old.groups (Right group spelled.now) }
         ensures within { OnOk result (IsWithin packet self.old self.new) }
-        ensures handles { (groups : List GroupKeys) (told : List Entry) (rights : List RightFrame)
-            (spelled_before : List RightMkpdu) → Holds groups told rights spelled_before self.old
-            → length (keys told) ≤ most_keys
-            → Handles groups told rights spelled_before packet nanos (Right group spelled.now) self.old self.new result }
+        ensures handles { OfHeld self.old (λ groups told rights before. length (keys told) ≤ most_keys
+            → Handles groups told rights before packet nanos (Right group spelled.now) self.old self.new result) }
         ensures ends { result ≢ Err ends.WriteFault }
     {
         let announcement = &spelled.announcement;

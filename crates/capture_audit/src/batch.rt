@@ -6,13 +6,13 @@ ghost use Rattle.capture_packets.specs.Packets.{Seen, seen};
 ghost use Rattle.key_ring.specs.Rings.{Ring};
 ghost use Rattle.known_keys.specs.History.{Entry};
 ghost use Rattle.known_keys.specs.Standing.{StandsFor as KnownStandsFor};
-ghost use Rattle.lan_base.specs.Faults.{Rose};
 ghost use Rattle.packet_verdicts.specs.Frames.{frame_of};
 ghost use Rattle.packet_verdicts.specs.Groups.{GroupKeys};
 ghost use Rattle.packet_verdicts.specs.Kinds.{Fits, packet_kind};
 ghost use Rattle.packet_verdicts.specs.Trials.{IsTrial, newest};
 ghost use Rattle.capture_audit.specs.declared.end.AuditEnd.TheVariants as ends;
 ghost use Rattle.capture_audit.specs.Before.{Unwrapped, entries, number_behind};
+ghost use Rattle.capture_audit.specs.Ends.{RisesAt};
 ghost use Rattle.capture_audit.specs.Telling.{told_lines};
 ghost use Rattle.capture_audit.specs.inside.Batches.{AreWaiting, IsJudged, IsLonger, IsReady, IsTriedAt, SettlesAlone, SettlesUp, StandsAt, Takes, Tells, TellsAll, Writes, answers, distributes, found_at, has_other_type};
 ghost use Rattle.capture_audit.specs.inside.Keeping.{IsFound, IsOfGroup, IsSound, Keeps};
@@ -99,8 +99,7 @@ impl Batch {
         ensures ready { OnOk result (IsReady auditor.new.groups self.new) }
         ensures count { OnOk result (auditor.new.tally.all + length self.new.waiting.items
             ≡ auditor.old.tally.all + (length self.old.waiting.items + 1)) }
-        ensures failed { result ≡ Err ends.WriteFault → Rose (K.faults sink.old) (K.faults sink.new) }
-        ensures faults { K.faults sink.old ≤ K.faults sink.new }
+        ensures write_fault { RisesAt (Err ends.WriteFault) (K.faults sink.old) (K.faults sink.new) result }
     {
         if self.passes(&packet) {
             auditor.settle(&packet.head, &Kind::Other, None)?;
@@ -247,8 +246,7 @@ impl Batch {
         ensures ready { OnOk result (self.new.waiting.items ≡ self.old.waiting.items) }
         ensures trials { OnOk result (self.new.trials.items ≡ self.old.trials.items) }
         ensures count { OnOk result (auditor.new.tally.all ≡ auditor.old.tally.all + 1) }
-        ensures failed { result ≡ Err ends.WriteFault → Rose (K.faults sink.old) (K.faults sink.new) }
-        ensures faults { K.faults sink.old ≤ K.faults sink.new }
+        ensures write_fault { RisesAt (Err ends.WriteFault) (K.faults sink.old) (K.faults sink.new) result }
     {
         let line = self.begin(auditor.tally.all + 1, &packet.octets[start..], &kind)?;
         let alone = Waiting {
@@ -281,8 +279,7 @@ impl Batch {
         ensures trials { OnOk result (self.new.trials.items ≡ []) }
         ensures count { OnOk result
             (auditor.new.tally.all ≡ auditor.old.tally.all + length self.old.waiting.items) }
-        ensures failed { result ≡ Err ends.WriteFault → Rose (K.faults sink.old) (K.faults sink.new) }
-        ensures faults { K.faults sink.old ≤ K.faults sink.new }
+        ensures write_fault { RisesAt (Err ends.WriteFault) (K.faults sink.old) (K.faults sink.new) result }
     {
         run_trials(rt, auditor.known.prepared(), &mut self.trials);
         tell_all(
@@ -305,8 +302,7 @@ impl Batch {
         ensures waiting { self.new.waiting.items ≡ self.old.waiting.items }
         ensures trials { self.new.trials.items ≡ self.old.trials.items }
         ensures shows { self.new.shows ≡ self.old.shows }
-        ensures failed { result ≡ Err ends.WriteFault → Rose (K.faults sink.old) (K.faults sink.new) }
-        ensures faults { K.faults sink.old ≤ K.faults sink.new }
+        ensures write_fault { RisesAt (Err ends.WriteFault) (K.faults sink.old) (K.faults sink.new) result }
     {
         let result = write_all(sink, &self.text);
         self.text.clear();

@@ -1,10 +1,10 @@
 //! Packets are read and settled one after the other.
 
-ghost use Rattle.std.specs.Prelude.{◌≡◌, ◌<◌, ◌≤◌, ◌^◌, ℕ, Bool, List, Option, None, Some, Ok, Err};
+ghost use Rattle.std.specs.Prelude.{◌≡◌, ◌<◌, ◌^◌, ℕ, Bool, List, Option, None, Some, Ok, Err};
 ghost use Rattle.audit_report.specs.declared.ending.Ending.TheVariants as endings;
 ghost use Rattle.key_ring.specs.Rings.{Ring};
-ghost use Rattle.lan_base.specs.Faults.{Rose};
 ghost use Rattle.capture_audit.specs.declared.end.AuditEnd.TheVariants as ends;
+ghost use Rattle.capture_audit.specs.Ends.{RisesAt};
 ghost use Rattle.capture_audit.specs.inside.Auditing.{CanRead, IsAuditing, ReadsOne, ReadsUp, ending_of, limit_of};
 
 use crate::auditor::Auditor;
@@ -31,10 +31,8 @@ pub fn read_packets<T: Threads + Sync, S: Source, K: Sink>(
     ensures reads { (shows : Bool) (ring : Ring) (told held : Option (List ℕ))
         → IsAuditing shows ring told held reader.old (S.left source.old) (K.held sink.old) auditor.old batch.old
         → ReadsUp shows ring told held (S.left source.new) (K.held sink.new) auditor.new batch.new result }
-    ensures read_fault { result ≡ Ok endings.Fault → Rose (S.faults source.old) (S.faults source.new) }
-    ensures write_fault { result ≡ Err ends.WriteFault → Rose (K.faults sink.old) (K.faults sink.new) }
-    ensures reads_on { S.faults source.old ≤ S.faults source.new }
-    ensures writes_on { K.faults sink.old ≤ K.faults sink.new }
+    ensures read_fault { RisesAt (Ok endings.Fault) (S.faults source.old) (S.faults source.new) result }
+    ensures write_fault { RisesAt (Err ends.WriteFault) (K.faults sink.old) (K.faults sink.new) result }
 {
     loop {
         if let Some(ending) = read_one(rt, alloc, reader, source, auditor, batch, sink)? {
@@ -60,11 +58,8 @@ fn read_one<T: Threads + Sync, S: Source, K: Sink>(
     ensures can { result ≡ Ok None → CanRead reader.new auditor.new batch.new }
     ensures more { result ≡ Ok None → reader.old.supply.given < reader.new.supply.given }
     ensures few { result ≡ Ok None → reader.new.supply.given < 2 ^ 32 }
-    ensures read_fault { result ≡ Ok (Some endings.Fault)
-        → Rose (S.faults source.old) (S.faults source.new) }
-    ensures write_fault { result ≡ Err ends.WriteFault → Rose (K.faults sink.old) (K.faults sink.new) }
-    ensures reads_on { S.faults source.old ≤ S.faults source.new }
-    ensures writes_on { K.faults sink.old ≤ K.faults sink.new }
+    ensures read_fault { RisesAt (Ok (Some endings.Fault)) (S.faults source.old) (S.faults source.new) result }
+    ensures write_fault { RisesAt (Err ends.WriteFault) (K.faults sink.old) (K.faults sink.new) result }
 {
     let mut packet = Packet::new(alloc);
     match ending_of(reader.read(source, &mut packet))? {

@@ -1,10 +1,10 @@
 //! The report at the end is written.
 
-ghost use Rattle.std.specs.Prelude.{◌≡◌, ◌≤◌, ◌++◌, ℕ, List, Option};
+ghost use Rattle.std.specs.Prelude.{◌++◌, ℕ, List, Option, Err};
 ghost use Rattle.audit_report.specs.Members.{member_line, member_lines};
 ghost use Rattle.audit_report.specs.Report.{end_lines};
-ghost use Rattle.lan_base.specs.Faults.{Rose};
 ghost use Rattle.capture_audit.specs.declared.end.AuditEnd.TheVariants as ends;
+ghost use Rattle.capture_audit.specs.Ends.{RisesAt};
 ghost use Rattle.capture_audit.specs.inside.Batches.{Writes};
 ghost use Rattle.capture_audit.specs.inside.Reporting.{IsWrittenOn, WritesOn};
 
@@ -27,8 +27,7 @@ pub fn write_end<K: Sink>(
 ) -> Result<(), AuditEnd>
     ensures writes { Writes (batch.old.text.items ++ end_lines tally.now verdict.now ending)
         (K.held sink.old) (K.held sink.new) result }
-    ensures failed { result ≡ Err ends.WriteFault → Rose (K.faults sink.old) (K.faults sink.new) }
-    ensures faults { K.faults sink.old ≤ K.faults sink.new }
+    ensures write_fault { RisesAt (Err ends.WriteFault) (K.faults sink.old) (K.faults sink.new) result }
 {
     begin_end(tally, verdict, ending, &mut batch.text)?;
     write_members(verdict.members(), batch, sink)?;
@@ -46,8 +45,7 @@ fn write_members<K: Sink>(
     ensures writes { (all : List ℕ) (held : Option (List ℕ))
         → IsWrittenOn all held (K.held sink.old) batch.old.text.items
         → WritesOn (all ++ member_lines members.now) held (K.held sink.new) batch.new.text.items result }
-    ensures failed { result ≡ Err ends.WriteFault → Rose (K.faults sink.old) (K.faults sink.new) }
-    ensures faults { K.faults sink.old ≤ K.faults sink.new }
+    ensures write_fault { RisesAt (Err ends.WriteFault) (K.faults sink.old) (K.faults sink.new) result }
 {
     for member in members {
         write_member(member, batch, sink)?;
@@ -60,8 +58,7 @@ fn write_member<K: Sink>(member: &Member, batch: &mut Batch, sink: &mut K) -> Re
     ensures writes { (all : List ℕ) (held : Option (List ℕ))
         → IsWrittenOn all held (K.held sink.old) batch.old.text.items
         → WritesOn (all ++ member_line member.now) held (K.held sink.new) batch.new.text.items result }
-    ensures failed { result ≡ Err ends.WriteFault → Rose (K.faults sink.old) (K.faults sink.new) }
-    ensures faults { K.faults sink.old ≤ K.faults sink.new }
+    ensures write_fault { RisesAt (Err ends.WriteFault) (K.faults sink.old) (K.faults sink.new) result }
 {
     put_member(member, &mut batch.text)?;
     if batch.text.len() < MOST_TEXT {

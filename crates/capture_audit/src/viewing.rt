@@ -10,7 +10,7 @@ ghost use Rattle.lan_base.specs.Faults.{Rose};
 ghost use Rattle.capture_audit.specs.declared.asks.Asks.{Asks};
 ghost use Rattle.capture_audit.specs.declared.end.AuditEnd.TheVariants as ends;
 ghost use Rattle.capture_audit.specs.Before.{Unwrapped};
-ghost use Rattle.capture_audit.specs.Ends.{EndsAudit, IsBroken, IsOfOutside, end_for, end_of};
+ghost use Rattle.capture_audit.specs.Ends.{EndsAudit, IsBroken, IsOfOutside, RisesAt, end_for, end_of};
 ghost use Rattle.capture_audit.specs.Reading.{IsRead};
 ghost use Rattle.capture_audit.specs.Telling.{all_told, numbered_hand};
 ghost use Rattle.capture_audit.specs.Views.{Views, end_seen};
@@ -53,12 +53,10 @@ pub fn view_audit<T: Threads + Sync, S: Source>(
         None None (end_seen asks.strict result) }
 
     // Faults are those of the outside.
-    ensures read_fault { result ≡ Err ends.ReadFault
-        → Rose (S.faults source.old) (S.faults source.new) }
+    ensures read_fault { RisesAt (Err ends.ReadFault) (S.faults source.old) (S.faults source.new) result }
     ensures fault { IfOk result (λ view. view.ending ≡ endings.Fault
         → Rose (S.faults source.old) (S.faults source.new)) }
     ensures unwritten { result ≢ Err ends.WriteFault }
-    ensures reads { S.faults source.old ≤ S.faults source.new }
 
     // Of a text whose packets can be read to their end nothing is missed.
     ensures broken { (asks : Asks) (text : List ℕ) (ring : Ring) (packets : List Unwrapped) (i j : ℕ)
@@ -96,12 +94,10 @@ fn view_with<T: Threads + Sync, S: Source>(
     requires few { length ring.groups < 2 ^ 32 }
     ensures views { (text : List ℕ) → ReadsRing text (S.left source.old) (Ok (ring, supply))
         → Views text (S.left source.new) result }
-    ensures read_fault { result ≡ Err ends.ReadFault
-        → Rose (S.faults source.old) (S.faults source.new) }
+    ensures read_fault { RisesAt (Err ends.ReadFault) (S.faults source.old) (S.faults source.new) result }
     ensures fault { IfOk result (λ view. view.ending ≡ endings.Fault
         → Rose (S.faults source.old) (S.faults source.new)) }
     ensures unwritten { result ≢ Err ends.WriteFault }
-    ensures reads { S.faults source.old ≤ S.faults source.new }
 {
     let hand = number_hand(alloc, &ring.hand)?;
     view_keyed(rt, alloc, ring, hand, supply, source)
@@ -119,12 +115,10 @@ fn view_keyed<T: Threads + Sync, S: Source>(
     requires few { length ring.groups < 2 ^ 32 }
     ensures views { (text : List ℕ) → ReadsRing text (S.left source.old) (Ok (ring, supply))
         → hand.items ≡ numbered_hand ring → Views text (S.left source.new) result }
-    ensures read_fault { result ≡ Err ends.ReadFault
-        → Rose (S.faults source.old) (S.faults source.new) }
+    ensures read_fault { RisesAt (Err ends.ReadFault) (S.faults source.old) (S.faults source.new) result }
     ensures fault { IfOk result (λ view. view.ending ≡ endings.Fault
         → Rose (S.faults source.old) (S.faults source.new)) }
     ensures unwritten { result ≢ Err ends.WriteFault }
-    ensures reads { S.faults source.old ≤ S.faults source.new }
 {
     let mut text = Vec::new(alloc);
     let mut auditor = Auditor::of(alloc, ring, &mut text)?;
@@ -151,9 +145,8 @@ fn read_capture<T: Threads + Sync, S: Source>(
         → ReadsCapture text ring (S.left source.new) auditor.new result }
     ensures read_fault { (shows : Bool) (ring : Ring) → StandsAt shows ring [] [] [] auditor.old batch.old
         → result ≡ Err ends.ReadFault → Rose (S.faults source.old) (S.faults source.new) }
-    ensures fault { result ≡ Ok endings.Fault → Rose (S.faults source.old) (S.faults source.new) }
+    ensures fault { RisesAt (Ok endings.Fault) (S.faults source.old) (S.faults source.new) result }
     ensures unwritten { result ≢ Err ends.WriteFault }
-    ensures reads_on { S.faults source.old ≤ S.faults source.new }
 {
     let mut reader = open(alloc, supply, source)?;
     read_quietly(rt, alloc, &mut reader, source, auditor, batch)
@@ -172,9 +165,8 @@ fn read_quietly<T: Threads + Sync, S: Source>(
     ensures reads { (shows : Bool) (ring : Ring) (told : Option (List ℕ))
         → IsAuditing shows ring told None reader.old (S.left source.old) None auditor.old batch.old
         → ReadsUp shows ring told None (S.left source.new) None auditor.new batch.new result }
-    ensures fault { result ≡ Ok endings.Fault → Rose (S.faults source.old) (S.faults source.new) }
+    ensures fault { RisesAt (Ok endings.Fault) (S.faults source.old) (S.faults source.new) result }
     ensures unwritten { result ≢ Err ends.WriteFault }
-    ensures reads_on { S.faults source.old ≤ S.faults source.new }
 {
     let mut sink = DropSink;
     read_packets(rt, alloc, reader, source, auditor, batch, &mut sink)

@@ -49,6 +49,12 @@ pub record Holds (groups : List GroupKeys) (told : List Entry) (rights : List Ri
   pub uses : UsesStandFor rights a.uses
   pub members : MembersStandFor spelled a.members
 
+-- this holds of all that an auditor may hold
+abbrev pub OfHeld : Auditor → (List GroupKeys → List Entry → List RightFrame → List RightMkpdu → Type 0)
+    → Type 0
+OfHeld a Says = (groups : List GroupKeys) (told : List Entry) (rights : List RightFrame)
+    (spelled : List RightMkpdu) → Holds groups told rights spelled a → Says groups told rights spelled
+
 -- of packets behind a key text, the newest of which is the first
 pub record Keeps (ring : Ring) (before : List Unwrapped) (a : Auditor) : Type 0 where
   pub holds : Holds ring.groups (entries ring before) (frames ring before) (mkpdus ring before) a

@@ -17,7 +17,7 @@ returns-clause-audited g c = λ text ring is stands.
     let held = g.K.Sink.held c.args.sink.now in
     let opens = c.in_ok-reader.ensures.opens text ring is in
     failed-earlier c.args.asks text (g.S.Source.left c.audit_packets.new.source) held
-    (g.K.Sink.held c.audit_packets.new.sink) _ _ c.audit_packets.result (rose-earlier _ _ _ c.open.ensures.reads)
+    (g.K.Sink.held c.audit_packets.new.sink) _ _ c.audit_packets.result (rose-earlier _ _ _ c.open.ensures.read_fault.counts)
     (c.audit_packets.ensures.audited text ring held
     (head-read text left left_then ring c.args.supply c.in_ok-reader.reader is opens)
     (begins shows ring (Some text) c.in_ok-reader.reader left_then held c.args.auditor.now c.args.batch.now stands
@@ -30,4 +30,4 @@ returns-clause-read_fault g c = λ shows ring stands is.
     let rose = c.audit_packets.ensures.read_fault shows ring held
     (begins shows ring None c.in_ok-reader.reader left_then held c.args.auditor.now c.args.batch.now stands
     (none-told c.in_ok-reader.reader left_then)) is in
-    rose-earlier _ _ _ c.open.ensures.reads rose
+    rose-earlier _ _ _ c.open.ensures.read_fault.counts rose

@@ -46,7 +46,7 @@ returns-clause-audited g c = λ text ring held head at.
     let w = c.in_ok-write.ensures in
     c.report.ensures.reports text ring (g.S.Source.left c.read_packets.new.source) held
     (g.S.Source.faults c.args.source.now) (g.S.Source.faults c.read_packets.new.source) head
-    (λ e. c.in_ok-ending.ensures.read_fault (ap (λ (x : Ending). Ok x) e))
+    (λ e. c.in_ok-ending.ensures.read_fault.rose (ap (λ (x : Ending). Ok x) e))
     (c.in_ok-ending.ensures.reads shows ring (Some text) held
     (written-on shows ring (Some text) held c.args.reader.now (g.S.Source.left c.args.source.now) (g.K.Sink.held c.args.sink.now)
     (g.K.Sink.held c.write.new.sink) c.args.auditor.now c.args.batch.now at c.write.new.self w.writes w.empty w.waiting w.trials w.shows))

@@ -24,12 +24,14 @@ returns-clause-views g c = λ text is numbered.
     numbered
 
 pub returns-clause-read_fault : goal.returns-clause-read_fault
-returns-clause-read_fault g c = λ is.
-    c.read_capture-read.ensures.read_fault false c.args.ring
-    (c.new-batch.ensures.stands c.args.ring c.in_ok-auditor.auditor c.in_ok-auditor.ensures.keeps
-    (set-told false c.args.ring c.of.new.into.items c.new-text.result.items c.new-text.ensures.items c.in_ok-auditor.ensures.lines))
-    (c.view_of.ensures.read_fault is)
+returns-clause-read_fault g c = record {
+  rose = λ is. c.read_capture-read.ensures.read_fault false c.args.ring
+      (c.new-batch.ensures.stands c.args.ring c.in_ok-auditor.auditor c.in_ok-auditor.ensures.keeps
+      (set-told false c.args.ring c.of.new.into.items c.new-text.result.items c.new-text.ensures.items c.in_ok-auditor.ensures.lines))
+      (c.view_of.ensures.read_fault is);
+  counts = c.read_capture-read.ensures.fault.counts;
+}
 
 pub returns-clause-fault : goal.returns-clause-fault
 returns-clause-fault g c =
-    fails-by _ c.read_capture-read.result c.view_of.result c.read_capture-read.ensures.fault c.view_of.ensures.fault
+    fails-by _ c.read_capture-read.result c.view_of.result c.read_capture-read.ensures.fault.rose c.view_of.ensures.fault

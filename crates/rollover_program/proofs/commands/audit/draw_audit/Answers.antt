@@ -49,7 +49,7 @@ returns-in-Err-clause-carried g c = record {
   );
   no_usage = λ e. audit_no_usage (Err c.in-Err.end) (sym c.status_of_audit.ensures ∙ e);
   read_cause = λ e.
-      c.in-Err.ensures.read_fault (ap (λ (x : AuditEnd). Err x) (end_is c.in-Err.end ends.ReadFault
+      c.in-Err.ensures.read_fault.rose (ap (λ (x : AuditEnd). Err x) (end_is c.in-Err.end ends.ReadFault
       (audit_read (Err c.in-Err.end) (sym c.status_of_audit.ensures ∙ e))));
   write_cause = λ e.
       absurd (c.in-Err.ensures.unwritten (ap (λ (x : AuditEnd). Err x) (end_is c.in-Err.end ends.WriteFault
@@ -59,7 +59,7 @@ returns-in-Err-clause-carried g c = record {
 pub returns-in-Err-clause-complete : goal.returns-in-Err-clause-complete
 returns-in-Err-clause-complete g c = λ text told ring packets read reads writes. rw c.status_of_audit.ensures
     (complete_audit c.args.asks _ ring packets (Err c.in-Err.end) reads
-    (λ e. reads (c.in-Err.ensures.read_fault (ap (λ (x : AuditEnd). Err x) (end_is c.in-Err.end ends.ReadFault e))))
+    (λ e. reads (c.in-Err.ensures.read_fault.rose (ap (λ (x : AuditEnd). Err x) (end_is c.in-Err.end ends.ReadFault e))))
     (λ e. c.in-Err.ensures.unwritten (ap (λ (x : AuditEnd). Err x) (end_is c.in-Err.end ends.WriteFault e)))
     (λ i j broken. c.in-Err.ensures.broken c.args.asks text ring packets i j told read broken)
     (λ none. c.in-Err.ensures.clean c.args.asks text ring packets told read none))
