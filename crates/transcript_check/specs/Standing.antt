@@ -11,7 +11,7 @@ use Rattle.lan_base.specs.declared.key_id.KeyId.{KeyId}
 use Rattle.lan_base.specs.Identifiers.{order}
 use Rattle.transcript_reader.specs.Forms.{station_of}
 use Rattle.transcript_reader.specs.Facts.{Known, Tells}
-use Rattle.transcript_reader.specs.Taking.{Rule}
+use Rattle.transcript_reader.specs.Taking.{Courses, Rule}
 use Rattle.transcript_reader.specs.Transcripts.{AreTaken as AreTakenBy}
 use Rattle.aes_block.specs.declared.secret.Secret.{Secret}
 use Rattle.aes_block.specs.declared.secret.Secret.TheVariants.{S128, S256}
@@ -176,6 +176,9 @@ refusal facts (shows.Installed s id an epoch sak) = option_map (λ _. Doubled) (
 refusal facts (shows.Claimed s an epoch pn) = no_epoch (sak_in facts s epoch)
 refusal facts _ = None
 
+abbrev pub Refuses : List Fact → Fact → CheckFault → Type 0
+Refuses facts fact why = refusal facts fact ≡ Some why
+
 -- ---- the verdict
 
 pub record IsVerdict (facts : List Fact) (verdict : Verdict) : Type 0 where
@@ -226,3 +229,11 @@ by_epochs = record { Free = λ facts fact. refusal facts fact ≡ None; Denies =
 -- lines that are taken one after another, from what is known, and facts, to what is known then, and others
 abbrev pub AreTaken : Known → List Fact → List (List ℕ) → Known → List Fact → Type 0
 AreTaken = AreTakenBy by_epochs
+
+-- the taker stands for the facts that it took; there is no outlet that could fail
+abbrev pub without_outlet : {T K : Type 0} → (List Fact → T → Type 0) → Courses T K
+without_outlet Stands = record {
+  Took = λ first facts now. Stands facts now.taker;
+  Broke = λ first facts now. Unit {0};
+  Cut = λ first facts now. ⊥;
+}

@@ -1,10 +1,8 @@
 //! A transcript is read from a source and judged.
 
-ghost use Rattle.std.specs.Prelude.{◌≡◌, ◌≢◌, ◌≤◌, List, ℕ, Some, Err};
-ghost use Rattle.lan_base.specs.Faults.{Rose};
+ghost use Rattle.std.specs.Prelude.{◌≡◌, List, ℕ, Some};
 ghost use Rattle.text_lines.specs.Reading.{sourced};
-ghost use Rattle.text_lines.specs.declared.unfinished.Unfinished.TheVariants as ends;
-ghost use Rattle.transcript_check.specs.Transcripts.{EndsJudging};
+ghost use Rattle.transcript_check.specs.Transcripts.{EndsJudging, IsReadAlone};
 
 use crate::fault::CheckFault;
 use crate::notes::Notes;
@@ -17,8 +15,7 @@ use transcript_reader::{FactTaker, Reading, TakeError, read_transcript};
 
 impl FactTaker<()> for Notes {
     ghost use Rattle.transcript_check.specs.declared.fault.CheckFault.TheVariants.{Unread};
-    ghost use Rattle.transcript_check.specs.Standing.{by_epochs};
-    ghost use Rattle.transcript_check.specs.inside.Noting.{Refuses, noted};
+    ghost use Rattle.transcript_check.specs.Standing.{Refuses, StandsFor, by_epochs, without_outlet};
     ghost use Rattle.transcript_check.specs.inside.Denying.{fact-denies};
 
     type Fault = CheckFault;
@@ -29,7 +26,7 @@ impl FactTaker<()> for Notes {
 
     ghost unread = { Unread };
 
-    ghost courses = { noted };
+    ghost courses = { without_outlet StandsFor };
 
     ghost Grew = { λ old new. Unit {0} };
 
@@ -67,10 +64,7 @@ pub fn judge<S: Source>(alloc: Global, source: &mut S) -> Result<Verdict, Unfini
     ensures judged { (text : List ℕ) → S.left source.old ≡ Some text → EndsJudging text
         (sourced (S.left source.old) (S.faults source.old))
         (sourced (S.left source.new) (S.faults source.new)) result }
-    ensures read_fault { result ≡ Err ends.ReadFault
-        → Rose (S.faults source.old) (S.faults source.new) }
-    ensures unwritten { result ≢ Err ends.WriteFault }
-    ensures counts { S.faults source.old ≤ S.faults source.new }
+    ensures read_fault { IsReadAlone (S.faults source.old) (S.faults source.new) result }
 {
     let mut reading = Reading::new(alloc, Notes::new(alloc))?;
     read_transcript(source, &mut reading, &mut ())?;

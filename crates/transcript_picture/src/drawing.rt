@@ -1,9 +1,9 @@
 //! A transcript is read from a source and drawn.
 
-ghost use Rattle.std.specs.Prelude.{◌≡◌, ◌≢◌, ◌≤◌, List, ℕ, Some, Err, IfErr};
-ghost use Rattle.lan_base.specs.Faults.{Rose};
+ghost use Rattle.std.specs.Prelude.{◌≡◌, List, ℕ, Some, IfErr};
 ghost use Rattle.text_lines.specs.Reading.{sourced};
 ghost use Rattle.text_lines.specs.declared.unfinished.Unfinished.TheVariants as ends;
+ghost use Rattle.transcript_check.specs.Transcripts.{IsReadAlone};
 ghost use Rattle.transcript_picture.specs.Transcripts.{EndsDrawing};
 
 use crate::sheet::picture;
@@ -20,10 +20,7 @@ pub fn draw<S: Source>(alloc: Global, source: &mut S) -> Result<Vec<u8>, Unfinis
     ensures drawn { (text : List ℕ) → S.left source.old ≡ Some text → EndsDrawing text
         (sourced (S.left source.old) (S.faults source.old))
         (sourced (S.left source.new) (S.faults source.new)) result }
-    ensures read_fault { result ≡ Err ends.ReadFault
-        → Rose (S.faults source.old) (S.faults source.new) }
-    ensures unwritten { result ≢ Err ends.WriteFault }
-    ensures counts { S.faults source.old ≤ S.faults source.new }
+    ensures read_fault { IsReadAlone (S.faults source.old) (S.faults source.new) result }
 {
     let mut reading = Reading::new(alloc, Sketch::new(alloc))?;
     read_transcript(source, &mut reading, &mut ())?;

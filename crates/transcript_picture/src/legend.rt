@@ -83,30 +83,18 @@ impl Legend {
 
 /// Appends the front of the coloured box of an identifier.
 fn put_box(into: &mut Vec<u8>, colour: u64, x: u64, y: u64) -> Result<(), AllocError> {
-    put(
-        into,
-        &[
-            Piece::Text(b"<g class=\"k"),
-            Piece::Number(colour),
-            Piece::Text(b"\"><rect class=\"thick\" x=\""),
-            Piece::Number(x),
-            Piece::Text(b"\" y=\""),
-            Piece::Number(y),
-            Piece::Text(b"\" width=\"22\" height=\"10\"/>"),
-        ],
-    )
+    put(into, &[Piece::Text(b"<g class=\"k"), Piece::Number(colour)])?;
+    let size = b"\" width=\"22\" height=\"10\"/>";
+    put_placed(into, b"\"><rect class=\"thick\"", x, y, size)
 }
 
 /// Appends the number in the coloured box of an identifier, and what ends the box.
 fn put_label(into: &mut Vec<u8>, number: u32, x: u64, y: u64) -> Result<(), AllocError> {
+    let (x, y) = (x.saturating_add(3), y.saturating_add(8));
+    put_placed(into, b"<text class=\"label\"", x, y, b"\">")?;
     put(
         into,
         &[
-            Piece::Text(b"<text class=\"label\" x=\""),
-            Piece::Number(x.saturating_add(3)),
-            Piece::Text(b"\" y=\""),
-            Piece::Number(y.saturating_add(8)),
-            Piece::Text(b"\">"),
             Piece::Number(u64::from(number)),
             Piece::Text(b"</text></g>"),
         ],
@@ -115,18 +103,36 @@ fn put_label(into: &mut Vec<u8>, number: u32, x: u64, y: u64) -> Result<(), Allo
 
 /// Appends an identifier, behind its box.
 fn put_identifier(into: &mut Vec<u8>, id: KeyId, x: u64, y: u64) -> Result<(), AllocError> {
+    let (x, y) = (x.saturating_add(28), y.saturating_add(9));
+    put_placed(into, b"<text", x, y, b"\">key ")?;
     put(
         into,
         &[
-            Piece::Text(b"<text x=\""),
-            Piece::Number(x.saturating_add(28)),
-            Piece::Text(b"\" y=\""),
-            Piece::Number(y.saturating_add(9)),
-            Piece::Text(b"\">key "),
             Piece::Number(u64::from(id.number)),
             Piece::Text(b" of "),
             Piece::Hex(&id.server.0),
             Piece::Text(b"</text>\n"),
+        ],
+    )
+}
+
+/// Appends what begins an element, where it stands, and what comes behind.
+fn put_placed<'a>(
+    into: &mut Vec<u8>,
+    begun: &'a [u8],
+    x: u64,
+    y: u64,
+    behind: &'a [u8],
+) -> Result<(), AllocError> {
+    put(
+        into,
+        &[
+            Piece::Text(begun),
+            Piece::Text(b" x=\""),
+            Piece::Number(x),
+            Piece::Text(b"\" y=\""),
+            Piece::Number(y),
+            Piece::Text(behind),
         ],
     )
 }

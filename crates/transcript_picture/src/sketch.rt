@@ -56,8 +56,8 @@ impl Sketch {
 impl FactTaker<()> for Sketch {
     ghost use Rattle.transcript_check.proofs.Public.{fact-denies};
     ghost use Rattle.transcript_check.specs.declared.fault.CheckFault.TheVariants.{Unread};
-    ghost use Rattle.transcript_check.specs.Standing.{by_epochs};
-    ghost use Rattle.transcript_picture.specs.inside.Sketching.{Refuses, sketched};
+    ghost use Rattle.transcript_check.specs.Standing.{Refuses, by_epochs, without_outlet};
+    ghost use Rattle.transcript_picture.specs.inside.Sketching.{IsSketchOf};
 
     type Fault = CheckFault;
 
@@ -67,7 +67,7 @@ impl FactTaker<()> for Sketch {
 
     ghost unread = { Unread };
 
-    ghost courses = { sketched };
+    ghost courses = { without_outlet IsSketchOf };
 
     ghost Grew = { λ old new. Unit {0} };
 

@@ -1,10 +1,8 @@
 -- What is kept of facts that come one after another, and what holds then.
 use Rattle.std.specs.Prelude.{◌≡◌, List, ◌∷◌, [], ◌++◌, None, Some, Result, Ok, Err}
 use Rattle.lan_core.specs.declared.fact.Fact.{Fact}
-use Rattle.transcript_reader.specs.Taking.{Courses}
 use Rattle.transcript_check.specs.declared.fault.CheckError.{CheckError}
 use Rattle.transcript_check.specs.declared.fault.CheckError.TheVariants.{Refused, Memory}
-use Rattle.transcript_check.specs.declared.fault.CheckFault.{CheckFault}
 use Rattle.transcript_check.specs.Standing.{AreSaksOf, Saks, refusal}
 use Rattle.key_spans.specs.Standing.{KeptSpans}
 use Rattle.transcript_picture.specs.Standing.{Shows}
@@ -24,15 +22,3 @@ abbrev pub Sketches : List Fact → Fact → KeptSketch → KeptSketch → Resul
 Sketches facts fact old new (Ok done) = (refusal facts fact ≡ None) × IsSketchOf (facts ++ fact ∷ []) new
 Sketches facts fact old new (Err (Refused why)) = (refusal facts fact ≡ Some why) × (new ≡ old)
 Sketches facts fact old new (Err Memory) = Unit {0}
-
--- why a fact is refused behind others
-abbrev pub Refuses : List Fact → Fact → CheckFault → Type 0
-Refuses facts fact why = refusal facts fact ≡ Some why
-
--- facts were taken since a first moment; there is no outlet that could fail
-abbrev pub sketched : {K : Type 0} → Courses KeptSketch K
-sketched = record {
-  Took = λ first facts now. IsSketchOf facts now.taker;
-  Broke = λ first facts now. Unit {0};
-  Cut = λ first facts now. ⊥;
-}

@@ -19,7 +19,7 @@ returns-in-Err g c = record {
       inr (c.in-Err.why, as-refused text _ _ _ (c.in-Err.ensures.drawn text told), c.status_of.ensures, refl);
   no_usage = λ e. never_usage c.in-Err.why (sym c.status_of.ensures ∙ e);
   read_cause = λ e.
-      c.in-Err.ensures.read_fault (ap (λ why. Err why) (read_faulted c.in-Err.why (sym c.status_of.ensures ∙ e)));
+      c.in-Err.ensures.read_fault.rose (ap (λ why. Err why) (read_faulted c.in-Err.why (sym c.status_of.ensures ∙ e)));
   write_cause = λ e.
-      absurd (c.in-Err.ensures.unwritten (ap (λ why. Err why) (write_faulted c.in-Err.why (sym c.status_of.ensures ∙ e))));
+      absurd (c.in-Err.ensures.read_fault.unwritten (ap (λ why. Err why) (write_faulted c.in-Err.why (sym c.status_of.ensures ∙ e))));
 }
