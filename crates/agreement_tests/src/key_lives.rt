@@ -8,7 +8,7 @@ use Told::{Began, Dropped, Installed, Retired, Untaken};
 use aes_block::{Key, Secret};
 use lan_base::{AssociationNumber, Mi};
 use mkpdu_codec::{ConfidentialityOffset, Given, KeyUse, Uses, WrappedKey};
-use sak_exchange::{Cause, Change, Changes, Due, KeyState, Offer, Report, Seen, Why};
+use sak_exchange::{Cause, Change, Changes, Due, KeyState, Offer, Rekey, Report, Seen, Why};
 use std::alloc::Global;
 use std::process::Abort;
 
@@ -166,7 +166,10 @@ fn makes(
             latest: 1,
             old: 1,
         },
-        rekey: 100,
+        rekey: Rekey {
+            from: 100,
+            as_old: false,
+        },
         conf: true,
     };
     if keys.makes(&due) {

@@ -18,7 +18,7 @@ use mka_kdf::Group;
 use mka_station::{Config, DropReason, Reaction, Station, TickError, Verdict};
 use mkpdu_codec::Refusal;
 use peer_lists::PeerRefusal;
-use sak_exchange::{Cause, Change, HeldKey, Key, Seen, Why};
+use sak_exchange::{Cause, Change, HeldKey, Key, Rekey, Seen, Why};
 use std::alloc::Global;
 use std::process::Abort;
 
@@ -96,7 +96,10 @@ fn station(rt: &impl Abort, alloc: Global, who: Who, suite: Suite) -> Station {
     let config = Config {
         sci: Sci([2, 0, 0, 0, 0, channel, 0, 1]),
         priority,
-        rekey: 3221225472,
+        rekey: Rekey {
+            from: 3221225472,
+            as_old: false,
+        },
         conf: true,
         early_flag: false,
         group: group(rt, alloc),

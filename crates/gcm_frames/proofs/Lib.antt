@@ -1,5 +1,6 @@
 pub mod Examples
 pub mod Found
+pub mod Offsets
 pub mod Opening
 pub mod Parts
 pub mod Reopened

@@ -12,7 +12,7 @@ use Rattle.aes_block.specs.Octet.{octets_sum}
 use Rattle.lan_base.specs.declared.address.Sci.{Sci}
 use Rattle.gcm_frames.specs.declared.tag.Tag.{Tag}
 use Rattle.gcm_frames.specs.Protected.{iv, IsSci}
-use Rattle.gcm_frames.specs.Sealed.{additional_data, check_octets, enciphered, user_data, deciphered, is_tag_right, opened, IsSealedFrom}
+use Rattle.gcm_frames.specs.Sealed.{additional_data, check_octets, enciphered, user_data, deciphered_with, is_tag_right_with, opened_with, IsSealedFromWith}
 
 -- what is known of the IV and of the cipher under a key
 pub record Encrypts (key v : List ℕ) : Type 0 where
@@ -58,10 +58,9 @@ unfolding gcm_text
 length-gcm_text key v text h = length-gctr key (increment (first_counter v)) text h.blocks (IsBlock-increment (first_counter v) h.counter)
 
 -- a frame that is sealed has a right tag, and deciphers to the text
-pub right_from : (key frame text : List ℕ) (tag : Tag) → Encrypts key (iv tag.sci tag.pn) → IsSealedFrom key tag frame text
-    → (is_tag_right key tag frame ≡ true) × (gcm_text key (iv tag.sci tag.pn) (enciphered tag frame) ≡ text)
-right_from key frame text tag h s =
-    let v : List ℕ = iv tag.sci tag.pn in
+pub right_from : (key v frame text : List ℕ) (tag : Tag) → Encrypts key v → IsSealedFromWith key v tag frame text
+    → (is_tag_right_with key v tag frame ≡ true) × (gcm_text key v (enciphered tag frame) ≡ text)
+right_from key v frame text tag h s =
     let text_is : gcm_text key v text ≡ enciphered tag frame = ap (λ p. p.0) s in
     let tag_is : gcm_tag key v (additional_data tag frame) (gcm_text key v text) ≡ check_octets tag frame = ap (λ p. p.1) s in
     let same : gcm_tag key v (additional_data tag frame) (enciphered tag frame) ≡ check_octets tag frame =
@@ -69,10 +68,9 @@ right_from key frame text tag h s =
     ((bytes_decides _ _).1 same, ap (gcm_text key v) (sym text_is) ∙ text_again key v text h)
 
 -- a frame with a right tag is sealed from what it deciphers to
-pub from_right : (key frame : List ℕ) (tag : Tag) → Encrypts key (iv tag.sci tag.pn) → is_tag_right key tag frame ≡ true
-    → IsSealedFrom key tag frame (gcm_text key (iv tag.sci tag.pn) (enciphered tag frame))
-from_right key frame tag w h =
-    let v : List ℕ = iv tag.sci tag.pn in
+pub from_right : (key v frame : List ℕ) (tag : Tag) → Encrypts key v → is_tag_right_with key v tag frame ≡ true
+    → IsSealedFromWith key v tag frame (gcm_text key v (enciphered tag frame))
+from_right key v frame tag w h =
     let same : gcm_tag key v (additional_data tag frame) (enciphered tag frame) ≡ check_octets tag frame = (bytes_decides _ _).0 h in
     let again : gcm_text key v (gcm_text key v (enciphered tag frame)) ≡ enciphered tag frame = text_again key v (enciphered tag frame) w in
     let checked : gcm_tag key v (additional_data tag frame) (gcm_text key v (gcm_text key v (enciphered tag frame))) ≡ check_octets tag frame =
@@ -82,23 +80,21 @@ from_right key frame tag w h =
 cond_at : {A : Type 0} (b c : Bool) (x y : A) → b ≡ c → cond b x y ≡ cond c x y
 cond_at b c x y h = ap (λ (t : Bool). cond t x y) h
 
-pub opened_some : (key frame text : List ℕ) (tag : Tag) → Encrypts key (iv tag.sci tag.pn) → IsSealedFrom key tag frame text → opened key tag frame ≡ Some (user_data tag frame text)
-unfolding opened
-opened_some key frame text tag h s =
-    let r = right_from key frame text tag h s in
-    cond_at (is_tag_right key tag frame) true (Some (deciphered key tag frame)) None r.0
+pub opened_some : (key v frame text : List ℕ) (tag : Tag) → Encrypts key v → IsSealedFromWith key v tag frame text → opened_with key v tag frame ≡ Some (user_data tag frame text)
+opened_some key v frame text tag h s =
+    let r = right_from key v frame text tag h s in
+    cond_at (is_tag_right_with key v tag frame) true (Some (deciphered_with key v tag frame)) None r.0
     ∙ ap (λ (t : List ℕ). Some (user_data tag frame t)) r.1
 
 by_test : {P : Type 0} (b : Bool) → (b ≡ true → P) → (b ≡ false → P) → P
 by_test true f g = f refl
 by_test false f g = g refl
 
-pub opened_none : (key frame : List ℕ) (tag : Tag) → Encrypts key (iv tag.sci tag.pn) → ((text : List ℕ) → IsSealedFrom key tag frame text → ⊥) → opened key tag frame ≡ None
-unfolding opened
-opened_none key frame tag w none =
-    by_test (is_tag_right key tag frame)
-    (λ h. absurd (none _ (from_right key frame tag w h)))
-    (λ h. cond_at (is_tag_right key tag frame) false (Some (deciphered key tag frame)) None h)
+pub opened_none : (key v frame : List ℕ) (tag : Tag) → Encrypts key v → ((text : List ℕ) → IsSealedFromWith key v tag frame text → ⊥) → opened_with key v tag frame ≡ None
+opened_none key v frame tag w none =
+    by_test (is_tag_right_with key v tag frame)
+    (λ h. absurd (none _ (from_right key v frame tag w h)))
+    (λ h. cond_at (is_tag_right_with key v tag frame) false (Some (deciphered_with key v tag frame)) None h)
 
 some-same : (a b : List ℕ) → Some a ≡ Some b → b ≡ a
 some-same a b e = cc
@@ -106,14 +102,13 @@ some-same a b e = cc
 none-some : {P : Type 0} (a : List ℕ) → None ≡ Some a → P
 none-some a e = absurd (cc)
 
-pub sealed_from : (key frame user : List ℕ) (tag : Tag) → Encrypts key (iv tag.sci tag.pn) → opened key tag frame ≡ Some user
-    → (text : List ℕ) × IsSealedFrom key tag frame text × (user ≡ user_data tag frame text)
-unfolding opened
-sealed_from key frame user tag w e =
-    by_test (is_tag_right key tag frame)
+pub sealed_from : (key v frame user : List ℕ) (tag : Tag) → Encrypts key v → opened_with key v tag frame ≡ Some user
+    → (text : List ℕ) × IsSealedFromWith key v tag frame text × (user ≡ user_data tag frame text)
+sealed_from key v frame user tag w e =
+    by_test (is_tag_right_with key v tag frame)
     (λ h. (
-      gcm_text key (iv tag.sci tag.pn) (enciphered tag frame),
-      from_right key frame tag w h,
-      some-same _ user (sym (cond_at (is_tag_right key tag frame) true (Some (deciphered key tag frame)) None h) ∙ e),
+      gcm_text key v (enciphered tag frame),
+      from_right key v frame tag w h,
+      some-same _ user (sym (cond_at (is_tag_right_with key v tag frame) true (Some (deciphered_with key v tag frame)) None h) ∙ e),
     ))
-    (λ h. none-some user (sym (cond_at (is_tag_right key tag frame) false (Some (deciphered key tag frame)) None h) ∙ e))
+    (λ h. none-some user (sym (cond_at (is_tag_right_with key v tag frame) false (Some (deciphered_with key v tag frame)) None h) ∙ e))

@@ -47,6 +47,7 @@ length-head sci an pn conf user h k =
 -- with confidentiality
 opened_conf : (key head body : List ℕ) (sci : Sci) (an : AssociationNumber) (pn : ℕ) → Encrypts key (iv sci pn) → length head ≡ 28
     → opened key (record { sci = sci; an = an; pn = pn; conf = true; start = 28; len = length body }) (sealed_octets key (iv sci pn) true head body) ≡ Some body
+unfolding opened
 opened_conf key head body sci an pn w long =
     let tag : Tag = record { sci = sci; an = an; pn = pn; conf = true; start = 28; len = length body } in
     let v : List ℕ = iv sci pn in
@@ -59,11 +60,12 @@ opened_conf key head body sci an pn w long =
     ap (take 16) (drop_two head text check 28 (length body) long (length-gcm_text key v body w)) ∙ take_all 16 check (omega (arith, length-gcm_tag key v head text w)) in
     let whole : gcm key v head body ≡ (text, check) = refl in
     let sealed : IsSealedFrom key tag frame body = ap (λ (x : List ℕ). gcm key v x body) front ∙ whole ∙ sym (λ i. (mid i, back i)) in
-    opened_some key frame body tag w sealed
+    opened_some key v frame body tag w sealed
 
 -- without it
 opened_plain : (key head body : List ℕ) (sci : Sci) (an : AssociationNumber) (pn : ℕ) → Encrypts key (iv sci pn) → length head ≡ 28
     → opened key (record { sci = sci; an = an; pn = pn; conf = false; start = 28; len = length body }) (sealed_octets key (iv sci pn) false head body) ≡ Some body
+unfolding opened
 opened_plain key head body sci an pn w long =
     let tag : Tag = record { sci = sci; an = an; pn = pn; conf = false; start = 28; len = length body } in
     let v : List ℕ = iv sci pn in
@@ -75,7 +77,7 @@ opened_plain key head body sci an pn w long =
     ap (take 16) (drop_two head body check 28 (length body) long refl) ∙ take_all 16 check (omega (arith, length-gcm_tag key v (head ++ body) (gcm_text key v []) w)) in
     let whole : gcm key v (head ++ body) [] ≡ ([], check) = λ i. (text_none key v i, check) in
     let sealed : IsSealedFrom key tag frame [] = ap (λ (x : List ℕ). gcm key v x []) front ∙ whole ∙ sym (λ i. ([], back i)) in
-    opened_some key frame [] tag w sealed ∙ ap Some mid
+    opened_some key v frame [] tag w sealed ∙ ap Some mid
 
 pub reopened : (key : List ℕ) (sci : Sci) (an : AssociationNumber) (pn : ℕ) (conf : Bool) (user : UserFrame)
     → ((k block : List ℕ) → IsKey k → IsBlock block → IsBlock (aes k block)) → IsKey key → IsSent sci pn user

@@ -1,11 +1,10 @@
 -- What the code did to a received frame is what its definition says.
-use Rattle.std.proofs.Common.{◌≡◌, ℕ, ◌+◌, ◌≤◌, Bool, true, false, cond, List, [], ◌++◌, length, take, drop, Some, None, sym, ap, ◌∙◌, subst, arith}
+use Rattle.std.proofs.Common.{◌≡◌, ℕ, ◌+◌, ◌≤◌, Bool, true, false, cond, List, [], ◌++◌, length, take, drop, Some, None, sym, ap, ◌∙◌, arith}
 use Rattle.std.specs.Bool.{OnTrue, OnFalse}
 use Rattle.std.proofs.lemmas.List.{length-drop, length-take-le, take-append-drop, drop-drop}
 use Rattle.gcm_core.specs.Gcm.{gcm}
 use Rattle.gcm_frames.specs.declared.tag.Tag.{Tag}
-use Rattle.gcm_frames.specs.Protected.{iv}
-use Rattle.gcm_frames.specs.Sealed.{check_octets, secure_data, user_data, with_user_data, opened, IsSealedFrom}
+use Rattle.gcm_frames.specs.Sealed.{check_octets, secure_data, user_data, with_user_data, opened_with, IsSealedFromWith}
 use Rattle.gcm_frames.proofs.Parts.{middle}
 use Rattle.gcm_frames.proofs.Opening.{Encrypts, opened_some, opened_none, length-gcm_text}
 
@@ -25,33 +24,33 @@ joined frame start len =
     ∙ take-append-drop start frame
 
 -- where the data is enciphered, what was sealed is what stands in the frame
-sealed_conf : (key frame text : List ℕ) (tag : Tag) (conf : Bool) → conf ≡ true
-    → (gcm key (iv tag.sci tag.pn) (cond conf (take tag.start frame) (take (tag.start + tag.len) frame)) text
+sealed_conf : (key v frame text : List ℕ) (tag : Tag) (conf : Bool) → conf ≡ true
+    → (gcm key v (cond conf (take tag.start frame) (take (tag.start + tag.len) frame)) text
     ≡ (cond conf (secure_data tag frame) [], check_octets tag frame))
-    → gcm key (iv tag.sci tag.pn) (take tag.start frame) text ≡ (secure_data tag frame, check_octets tag frame)
-sealed_conf key frame text tag true e s = s
-sealed_conf key frame text tag false e s = absurd (cc)
+    → gcm key v (take tag.start frame) text ≡ (secure_data tag frame, check_octets tag frame)
+sealed_conf key v frame text tag true e s = s
+sealed_conf key v frame text tag false e s = absurd (cc)
 
-conf_sealed : (key frame text : List ℕ) (tag : Tag) (conf : Bool) → conf ≡ true
-    → gcm key (iv tag.sci tag.pn) (take tag.start frame) text ≡ (secure_data tag frame, check_octets tag frame)
-    → (gcm key (iv tag.sci tag.pn) (cond conf (take tag.start frame) (take (tag.start + tag.len) frame)) text
+conf_sealed : (key v frame text : List ℕ) (tag : Tag) (conf : Bool) → conf ≡ true
+    → gcm key v (take tag.start frame) text ≡ (secure_data tag frame, check_octets tag frame)
+    → (gcm key v (cond conf (take tag.start frame) (take (tag.start + tag.len) frame)) text
     ≡ (cond conf (secure_data tag frame) [], check_octets tag frame))
-conf_sealed key frame text tag true e s = s
-conf_sealed key frame text tag false e s = absurd (cc)
+conf_sealed key v frame text tag true e s = s
+conf_sealed key v frame text tag false e s = absurd (cc)
 
-plain_sealed : (key frame text : List ℕ) (tag : Tag) (conf : Bool) → conf ≡ false
-    → gcm key (iv tag.sci tag.pn) (take (tag.start + tag.len) frame) text ≡ ([], check_octets tag frame)
-    → (gcm key (iv tag.sci tag.pn) (cond conf (take tag.start frame) (take (tag.start + tag.len) frame)) text
+plain_sealed : (key v frame text : List ℕ) (tag : Tag) (conf : Bool) → conf ≡ false
+    → gcm key v (take (tag.start + tag.len) frame) text ≡ ([], check_octets tag frame)
+    → (gcm key v (cond conf (take tag.start frame) (take (tag.start + tag.len) frame)) text
     ≡ (cond conf (secure_data tag frame) [], check_octets tag frame))
-plain_sealed key frame text tag true e s = absurd (cc)
-plain_sealed key frame text tag false e s = s
+plain_sealed key v frame text tag true e s = absurd (cc)
+plain_sealed key v frame text tag false e s = s
 
-sealed_plain : (key frame text : List ℕ) (tag : Tag) (conf : Bool) → conf ≡ false
-    → (gcm key (iv tag.sci tag.pn) (cond conf (take tag.start frame) (take (tag.start + tag.len) frame)) text
+sealed_plain : (key v frame text : List ℕ) (tag : Tag) (conf : Bool) → conf ≡ false
+    → (gcm key v (cond conf (take tag.start frame) (take (tag.start + tag.len) frame)) text
     ≡ (cond conf (secure_data tag frame) [], check_octets tag frame))
-    → gcm key (iv tag.sci tag.pn) (take (tag.start + tag.len) frame) text ≡ ([], check_octets tag frame)
-sealed_plain key frame text tag true e s = absurd (cc)
-sealed_plain key frame text tag false e s = s
+    → gcm key v (take (tag.start + tag.len) frame) text ≡ ([], check_octets tag frame)
+sealed_plain key v frame text tag true e s = absurd (cc)
+sealed_plain key v frame text tag false e s = s
 
 data_at : (x y : List ℕ) (conf : Bool) → conf ≡ true → cond conf x y ≡ x
 data_at x y conf e = ap (λ (t : Bool). cond t x y) e
@@ -60,28 +59,27 @@ data_else : (x y : List ℕ) (conf : Bool) → conf ≡ false → cond conf x y 
 data_else x y conf e = ap (λ (t : Bool). cond t x y) e
 
 -- what the code saw of a frame whose data is enciphered
-pub record Saw (key frame : List ℕ) (tag : Tag) (v head rest check : List ℕ) : Type 0 where
-  pub iv_is : v ≡ iv tag.sci tag.pn
+pub record Saw (frame : List ℕ) (tag : Tag) (head rest check : List ℕ) : Type 0 where
   pub head_is : head ≡ take tag.start frame
   pub rest_is : rest ≡ drop tag.start frame
   pub check_is : check ≡ check_octets tag frame
   pub conf_is : tag.conf ≡ true
 
-sealed_seen : (key frame text : List ℕ) (tag : Tag) (v head rest check : List ℕ) → Saw key frame tag v head rest check → IsSealedFrom key tag frame text
+sealed_seen : (key frame text : List ℕ) (tag : Tag) (v head rest check : List ℕ) → Saw frame tag head rest check → IsSealedFromWith key v tag frame text
     → gcm key v head text ≡ (take tag.len rest, check)
 sealed_seen key frame text tag v head rest check w s =
-    let there = sealed_conf key frame text tag tag.conf w.conf_is s in
-    (λ i. gcm key (w.iv_is i) (w.head_is i) text) ∙ there ∙ sym (λ i. (take tag.len (w.rest_is i), w.check_is i))
+    let there = sealed_conf key v frame text tag tag.conf w.conf_is s in
+    (λ i. gcm key v (w.head_is i) text) ∙ there ∙ sym (λ i. (take tag.len (w.rest_is i), w.check_is i))
 
-seen_sealed : (key frame text : List ℕ) (tag : Tag) (v head rest check : List ℕ) → Saw key frame tag v head rest check
-    → gcm key v head text ≡ (take tag.len rest, check) → IsSealedFrom key tag frame text
+seen_sealed : (key frame text : List ℕ) (tag : Tag) (v head rest check : List ℕ) → Saw frame tag head rest check
+    → gcm key v head text ≡ (take tag.len rest, check) → IsSealedFromWith key v tag frame text
 seen_sealed key frame text tag v head rest check w g =
-    conf_sealed key frame text tag tag.conf w.conf_is
-    (sym (λ i. gcm key (w.iv_is i) (w.head_is i) text) ∙ g ∙ (λ i. (take tag.len (w.rest_is i), w.check_is i)))
+    conf_sealed key v frame text tag tag.conf w.conf_is
+    (sym (λ i. gcm key v (w.head_is i) text) ∙ g ∙ (λ i. (take tag.len (w.rest_is i), w.check_is i)))
 
-pub conf_plain : (key frame new : List ℕ) (tag : Tag) (v head rest check : List ℕ) (b : Bool) → Saw key frame tag v head rest check
+pub conf_plain : (key frame new : List ℕ) (tag : Tag) (v head rest check : List ℕ) (b : Bool) → Saw frame tag head rest check
     → OnTrue b ((plain : List ℕ) → gcm key v head plain ≡ (take tag.len rest, check) → plain ≡ new)
-    → OnTrue b ((text : List ℕ) → IsSealedFrom key tag frame text
+    → OnTrue b ((text : List ℕ) → IsSealedFromWith key v tag frame text
     → head ++ (new ++ drop tag.len rest) ≡ with_user_data tag frame (user_data tag frame text))
 conf_plain key frame new tag v head rest check b w only =
     on_true b (λ f text s.
@@ -91,34 +89,34 @@ conf_plain key frame new tag v head rest check b w only =
     ap (drop tag.len) w.rest_is ∙ drop-drop tag.len tag.start frame in
     λ i. w.head_is i ++ (sym user i ++ tail i)) only
 
-pub conf_unchanged : (key frame new : List ℕ) (tag : Tag) (v head rest check : List ℕ) (b : Bool) → Saw key frame tag v head rest check
+pub conf_unchanged : (frame new : List ℕ) (tag : Tag) (head rest check : List ℕ) (b : Bool) → Saw frame tag head rest check
     → OnFalse b (new ≡ take tag.len rest) → OnFalse b (head ++ (new ++ drop tag.len rest) ≡ frame)
-conf_unchanged key frame new tag v head rest check b w same =
+conf_unchanged frame new tag head rest check b w same =
     on_false b (λ e.
     let tail : drop tag.len rest ≡ drop (tag.start + tag.len) frame =
     ap (drop tag.len) w.rest_is ∙ drop-drop tag.len tag.start frame in
     let mid : new ≡ take tag.len (drop tag.start frame) = e ∙ ap (take tag.len) w.rest_is in
     (λ i. w.head_is i ++ (mid i ++ tail i)) ∙ joined frame tag.start tag.len) same
 
-pub conf_exact : (key frame new : List ℕ) (tag : Tag) (v head rest check : List ℕ) (b : Bool) → Encrypts key v → Saw key frame tag v head rest check
+pub conf_exact : (key frame new : List ℕ) (tag : Tag) (v head rest check : List ℕ) (b : Bool) → Encrypts key v → Saw frame tag head rest check
     → tag.start + tag.len + 16 ≤ length frame
     → OnTrue b (gcm key v head new ≡ (take tag.len rest, check))
     → OnFalse b ((plain : List ℕ) → gcm key v head plain ≡ (take tag.len rest, check) → ⊥)
-    → opened key tag frame ≡ cond b (Some (secure_data tag (head ++ (new ++ drop tag.len rest)))) None
+    → opened_with key v tag frame ≡ cond b (Some (secure_data tag (head ++ (new ++ drop tag.len rest)))) None
 conf_exact key frame new tag v head rest check true works w within right wrong =
     let long : length head ≡ tag.start = ap length w.head_is ∙ length-take-le tag.start frame (omega arith) in
     let inside : length new ≡ tag.len =
     sym (length-gcm_text key v new works) ∙ ap length (ap (λ p. p.0) right) ∙ length-take-le tag.len rest (omega (arith, ap length w.rest_is, length-drop tag.start frame)) in
-    opened_some key frame new tag (subst (Encrypts key) w.iv_is works) (seen_sealed key frame new tag v head rest check w right)
+    opened_some key v frame new tag works (seen_sealed key frame new tag v head rest check w right)
     ∙ ap Some (data_at new (secure_data tag frame) tag.conf w.conf_is ∙ sym (middle head new (drop tag.len rest) tag.start tag.len long inside))
 conf_exact key frame new tag v head rest check false works w within right wrong =
-    opened_none key frame tag (subst (Encrypts key) w.iv_is works) (λ text s. wrong text (sealed_seen key frame text tag v head rest check w s))
+    opened_none key v frame tag works (λ text s. wrong text (sealed_seen key frame text tag v head rest check w s))
 
 -- ---- where the data is not enciphered
 
-pub plain_plain : (key frame : List ℕ) (tag : Tag) (b : Bool) → tag.conf ≡ false
-    → OnTrue b ((text : List ℕ) → IsSealedFrom key tag frame text → frame ≡ with_user_data tag frame (user_data tag frame text))
-plain_plain key frame tag b conf_is =
+pub plain_plain : (key v frame : List ℕ) (tag : Tag) (b : Bool) → tag.conf ≡ false
+    → OnTrue b ((text : List ℕ) → IsSealedFromWith key v tag frame text → frame ≡ with_user_data tag frame (user_data tag frame text))
+plain_plain key v frame tag b conf_is =
     on_true {P = Unit {0}} b (λ _ text s.
     sym (joined frame tag.start tag.len)
     ∙ ap (λ (x : List ℕ). take tag.start frame ++ (x ++ drop (tag.start + tag.len) frame))
@@ -129,15 +127,15 @@ plain_plain key frame tag b conf_is =
     always false = tt
 
 pub plain_exact : (key frame new : List ℕ) (tag : Tag) (v check : List ℕ) (b : Bool) → Encrypts key v → tag.conf ≡ false
-    → v ≡ iv tag.sci tag.pn → check ≡ check_octets tag frame
+    → check ≡ check_octets tag frame
     → OnTrue b (gcm key v (take (tag.start + tag.len) frame) new ≡ ([], check))
     → OnFalse b ((plain : List ℕ) → gcm key v (take (tag.start + tag.len) frame) plain ≡ ([], check) → ⊥)
-    → opened key tag frame ≡ cond b (Some (secure_data tag frame)) None
-plain_exact key frame new tag v check true works conf_is iv_is check_is right wrong =
-    let there : gcm key (iv tag.sci tag.pn) (take (tag.start + tag.len) frame) new ≡ ([], check_octets tag frame) =
-    sym (λ i. gcm key (iv_is i) (take (tag.start + tag.len) frame) new) ∙ right ∙ (λ i. ([], check_is i)) in
-    opened_some key frame new tag (subst (Encrypts key) iv_is works) (plain_sealed key frame new tag tag.conf conf_is there)
+    → opened_with key v tag frame ≡ cond b (Some (secure_data tag frame)) None
+plain_exact key frame new tag v check true works conf_is check_is right wrong =
+    let there : gcm key v (take (tag.start + tag.len) frame) new ≡ ([], check_octets tag frame) =
+    right ∙ (λ i. ([], check_is i)) in
+    opened_some key v frame new tag works (plain_sealed key v frame new tag tag.conf conf_is there)
     ∙ ap Some (data_else new (secure_data tag frame) tag.conf conf_is)
-plain_exact key frame new tag v check false works conf_is iv_is check_is right wrong =
-    opened_none key frame tag (subst (Encrypts key) iv_is works) (λ text s. wrong text
-    ((λ i. gcm key (iv_is i) (take (tag.start + tag.len) frame) text) ∙ sealed_plain key frame text tag tag.conf conf_is s ∙ sym (λ i. ([], check_is i))))
+plain_exact key frame new tag v check false works conf_is check_is right wrong =
+    opened_none key v frame tag works (λ text s. wrong text
+    (sealed_plain key v frame text tag tag.conf conf_is s ∙ sym (λ i. ([], check_is i))))

@@ -7,6 +7,7 @@ use Rattle.lan_base.specs.Ranges.{IsUserData}
 use Rattle.lan_base.specs.declared.association_number.AssociationNumber.{AssociationNumber}
 use Rattle.lan_base.specs.declared.address.Sci.{Sci}
 use Rattle.lan_base.specs.declared.frame.UserFrame.{UserFrame}
+use Rattle.aes_block.specs.Octet.{octets_sum}
 use Rattle.gcm_core.specs.Gcm.{gcm}
 
 -- the octet of control information: an explicit SCI (20), E (08) and C (04) where the data is
@@ -37,6 +38,11 @@ head_octets sci an pn conf user =
 -- the IV: the SCI, and then the packet number
 abbrev pub iv : Sci → ℕ → List ℕ
 iv sci pn = sci.0 ++ big_bytes 4 pn
+
+-- the IV under a suite with extended packet numbers: the short SCI and then the packet number of 64
+-- bits, xor the salt
+abbrev pub xpn_iv : List ℕ → ℕ → ℕ → List ℕ
+xpn_iv salt ssci number = octets_sum (big_bytes 4 ssci ++ big_bytes 8 number) salt
 
 -- a head, the secure data, and the tag. With confidentiality the user data is enciphered, and the
 -- head is the additional data; without it the head and the user data are, and nothing is

@@ -75,12 +75,11 @@ is_mode frame =
     not (is_broadcast frame) && not (are_same (is_end_station frame) (has_sci frame))
     && are_same (is_enciphered frame) (is_changed frame)
 
--- the flags are those of a mode that is read where the SCI may be implied: no broadcast, not both of ES and
--- SC, and E and C alike; where neither ES nor SC is set, there is no other sender than the one whose
--- address the frame has
+-- the flags are those of a mode that is read where the SCI may be implied: E and C alike, and with SC
+-- neither ES nor SCB; without SC the SCI is the source address with port 1, whatever ES and SCB are
 abbrev pub is_implied_mode : List ℕ → Bool
 is_implied_mode frame =
-    not (is_broadcast frame) && not (is_end_station frame && has_sci frame)
+    not (has_sci frame && (is_end_station frame || is_broadcast frame))
     && are_same (is_enciphered frame) (is_changed frame)
 
 -- the frame ends before the tag does, by its short length

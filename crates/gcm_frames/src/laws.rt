@@ -1,15 +1,15 @@
 //! Laws of protected frames.
 
-ghost use Rattle.std.specs.Prelude.{◌≡◌, ◌↔◌, ◌+◌, Bool, List, ℕ, length, Some, Ok, IsTrue};
+ghost use Rattle.std.specs.Prelude.{◌≡◌, ◌↔◌, ◌+◌, Bool, List, ℕ, length, Some, Ok, IsTrue, is_some};
 ghost use Rattle.aes_block.specs.Aes.{IsKey};
 ghost use Rattle.lan_base.specs.declared.address.Sci.{Sci};
 ghost use Rattle.lan_base.specs.declared.association_number.AssociationNumber.{AssociationNumber};
 ghost use Rattle.lan_base.specs.declared.frame.UserFrame.{UserFrame};
 ghost use Rattle.gcm_frames.specs.declared.tag.Tag.{Tag};
-ghost use Rattle.gcm_frames.specs.Protected.{IsSci, IsSent, protected, protection_octets};
+ghost use Rattle.gcm_frames.specs.Protected.{IsSci, IsSent, iv, protected, protection_octets};
 ghost use Rattle.gcm_frames.specs.Tags.{is_sec, tag_fields};
 ghost use Rattle.gcm_frames.specs.Written.{tag_written};
-ghost use Rattle.gcm_frames.specs.Sealed.{IsSealedFrom, opened, user_data};
+ghost use Rattle.gcm_frames.specs.Sealed.{IsSealedFrom, is_sealed_with, opened, user_data};
 ghost use Rattle.mkpdu_codec.specs.Refusals.{refused as refused_by_mka};
 ghost use Rattle.mkpdu_codec.specs.declared.refusal.Refusal.TheVariants.{NotMka};
 
@@ -53,6 +53,12 @@ pub fn law_opened_is_sealed()
 {
     law_ciphertexts_are_blocks();
 }
+
+/// A frame is sealed as it is with the IV of its SCI and packet number and no octets in clear.
+pub fn law_sealed_without_offset()
+    ensures { (key frame : List ℕ) (tag : Tag)
+        → is_sealed_with key (iv tag.sci tag.pn) 0 tag frame ≡ is_some (opened key tag frame) }
+{}
 
 /// No frame with the EtherType of MACsec is a frame of key agreement.
 pub fn law_no_frame_is_both()

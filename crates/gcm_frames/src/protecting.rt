@@ -1,7 +1,7 @@
 //! Writing a protected frame (IEEE Std 802.1AE, clauses 9 and 14).
 
 ghost use Rattle.std.specs.Prelude.{◌≡◌, ◌+◌, ◌<◌, ◌≤◌, ◌++◌, Bool, List, ℕ, length, take, drop, vec_len, vec_capacity};
-ghost use Rattle.gcm_frames.specs.Protected.{control_octet, short_length, sec_tag, head_octets, iv, protected, protection_octets, sealed_octets};
+ghost use Rattle.gcm_frames.specs.Protected.{control_octet, short_length, sec_tag, head_octets, iv, xpn_iv, protected, protection_octets, sealed_octets};
 ghost use Rattle.lan_base.specs.declared.association_number.AssociationNumber.{AssociationNumber};
 ghost use Rattle.lan_base.specs.Ranges.{IsUserData, most_frame_octets};
 ghost use Rattle.lan_base.specs.Room.{HasRoom, Puts};
@@ -42,12 +42,36 @@ fn short_length(count: usize) -> u8
 }
 
 /// The IV of a packet: the SCI, and then the packet number.
-pub(crate) fn iv_of(sci: Sci, pn: u32) -> [u8; 12]
+pub fn iv_of(sci: Sci, pn: u32) -> [u8; 12]
     ensures { result ≡ iv sci pn }
 {
     let [a, b, c, d, e, f, g, h] = sci.0;
     let [i, j, k, l] = pn.to_be_bytes();
     [a, b, c, d, e, f, g, h, i, j, k, l]
+}
+
+/// The IV of a packet under a suite with extended packet numbers: the short SCI and then the packet
+/// number, xor the salt.
+pub fn xpn_iv_of(salt: [u8; 12], ssci: u32, number: u64) -> [u8; 12]
+    ensures { result ≡ xpn_iv salt ssci number }
+{
+    let [a, b, c, d] = ssci.to_be_bytes();
+    let [e, f, g, h, i, j, k, l] = number.to_be_bytes();
+    let [m, n, o, p, q, r, s, t, u, v, w, x] = salt;
+    [
+        a ^ m,
+        b ^ n,
+        c ^ o,
+        d ^ p,
+        e ^ q,
+        f ^ r,
+        g ^ s,
+        h ^ t,
+        i ^ u,
+        j ^ v,
+        k ^ w,
+        l ^ x,
+    ]
 }
 
 /// Appends the SecTAG before so many octets of secure data.

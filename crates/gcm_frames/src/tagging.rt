@@ -75,8 +75,7 @@ fn is_mode(frame: &[u8]) -> bool
 fn is_implied_mode(frame: &[u8]) -> bool
     ensures { result ≡ is_implied_mode frame.now }
 {
-    !has_flag(BROADCAST, frame)
-        && !(has_flag(END_STATION, frame) && has_flag(EXPLICIT_SCI, frame))
+    !(has_flag(EXPLICIT_SCI, frame) && (has_flag(END_STATION, frame) || has_flag(BROADCAST, frame)))
         && has_flag(ENCIPHERED, frame) == has_flag(CHANGED, frame)
 }
 
@@ -121,8 +120,8 @@ pub fn tag_of(frame: &[u8]) -> Result<Tag, TagRefusal>
     fields_of(is_mode(frame), frame)
 }
 
-/// The fields of a frame whose SCI may be implied, or the first refusal: where neither ES nor SC is
-/// set, as a sender may leave both out that is alone with its peer, the SCI is its address with port 1.
+/// The fields of a frame whose SCI may be implied, or the first refusal: where SC isn't set, the SCI is
+/// the sender's address with port 1, also of a frame of the single copy broadcast channel.
 #[tactic(auto, unfolding(crate::specs::Tags::implied_fields))]
 pub fn implied_tag_of(frame: &[u8]) -> Result<Tag, TagRefusal>
     ensures exact { result ≡ implied_fields frame.now }

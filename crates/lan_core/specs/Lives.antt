@@ -1,6 +1,6 @@
 -- The life that a station is in after a run, and its history. Claims and emissions are no part of
 -- it.
-use Rattle.std.specs.Prelude.{ℕ, ◌==◌, if◌then◌else◌, List, [], ◌∷◌, length, slice_get, replicate}
+use Rattle.std.specs.Prelude.{ℕ, ◌==◌, false, if◌then◌else◌, List, [], ◌∷◌, length, slice_get, replicate}
 use Rattle.std.specs.Prelude.{Option, Some, None, option_map, option_and_then, unwrap_or}
 use Rattle.lan_base.specs.declared.address.Mi.{Mi}
 use Rattle.lan_base.specs.declared.address.Sci.{Sci}
@@ -93,7 +93,7 @@ setup_of settings p =
     record {
       sci = p.sci;
       priority = p.priority;
-      rekey = settings.rekey;
+      rekey = record { from = settings.rekey; as_old = false };
       conf = settings.conf;
       early_flag = settings.early_flag;
       suite = settings.suite;

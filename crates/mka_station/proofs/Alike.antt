@@ -256,6 +256,7 @@ announcement_by m lowest v past last =
       potential = map (peer_by past) v.potential;
       uses = uses_of lowest v.keys;
       given = given m v;
+      highs = None;
     }
 
 announcement-alike : (m : Member) (lowest : Key → ℕ) (v : View) (g : List Peering) → Same (own m) g v.peers → announcement m lowest (record v { peers = g }) ≡ announcement m lowest v

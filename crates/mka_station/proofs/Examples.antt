@@ -35,7 +35,7 @@ abbrev sci : ℕ → Sci
 sci n = record { 0 = 2 ∷ 0 ∷ 0 ∷ 0 ∷ 0 ∷ n ∷ 0 ∷ 1 ∷ [] }
 
 abbrev setup : ℕ → ℕ → Setup
-setup s priority = record { sci = sci s; priority = priority; rekey = 3221225472; conf = true; early_flag = false; suite = GcmAes128; ckn = 1 ∷ 2 ∷ 3 ∷ 4 ∷ []; kek = replicate 16 7; ick = replicate 16 8 }
+setup s priority = record { sci = sci s; priority = priority; rekey = record { from = 3221225472; as_old = false }; conf = true; early_flag = false; suite = GcmAes128; ckn = 1 ∷ 2 ∷ 3 ∷ 4 ∷ []; kek = replicate 16 7; ick = replicate 16 8 }
 
 abbrev alice : Member
 alice = record { setup = setup 10 16; mi = mi 1; base = 0 }
@@ -57,7 +57,7 @@ hear m a p = (hear_turn m a p).past
 
 -- the announcement with which a history ends
 abbrev silence : Announcement
-silence = record { source = record { 0 = [] }; priority = 0; server = false; sci = sci 0; mi = mi 0; mn = 0; ckn = []; live = []; potential = []; uses = None; given = None }
+silence = record { source = record { 0 = [] }; priority = 0; server = false; sci = sci 0; mi = mi 0; mn = 0; ckn = []; live = []; potential = []; uses = None; given = None; highs = None }
 
 abbrev said : List Entry → Announcement
 said (sent a ∷ p) = a

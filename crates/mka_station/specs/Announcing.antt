@@ -195,6 +195,7 @@ announcement m lowest v =
       potential = map (peer_of m v) v.potential;
       uses = uses_of lowest v.keys;
       given = given m v;
+      highs = None;
     }
 
 -- what a station says now, if it announces itself

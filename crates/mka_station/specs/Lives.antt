@@ -11,6 +11,7 @@ use Rattle.peer_lists.specs.Histories.{heard as peers_heard}
 use Rattle.peer_lists.specs.Acceptance.{Own, Accepted}
 use Rattle.peer_lists.specs.Listings.{listing}
 use Rattle.peer_lists.specs.Peers.{says, hopes, known}
+use Rattle.sak_exchange.specs.declared.due.Rekey.{Rekey}
 use Rattle.sak_exchange.specs.declared.held_key.Key.{Key}
 use Rattle.sak_exchange.specs.Histories.{Keying, ticked as keys_ticked}
 use Rattle.sak_exchange.specs.Histories.{installed as keys_installed, began as keys_began}
@@ -19,14 +20,14 @@ use Rattle.std.specs.Prelude.{filter_map}
 use Rattle.lan_base.specs.declared.address.Sci.{Sci}
 use Rattle.lan_base.specs.declared.suite.Suite.{Suite}
 
--- What a station is set up with: its SCI and key server priority, the packet number from which on a
--- key is spent, whether keys that it makes give confidentiality and for which cipher suite they are,
--- whether it has the key server flag also while it has elected nobody, and what the group's
--- connectivity association key gives: its name, the key encrypting key and the integrity check key.
+-- What a station is set up with: its SCI and key server priority, from where on a key is spent, whether keys
+-- that it makes give confidentiality and for which cipher suite they are, whether it has the key server flag
+-- also while it has elected nobody, and what the group's connectivity association key gives: its name, the
+-- key encrypting key and the integrity check key.
 pub record Setup : Type 0 where
   pub sci : Sci
   pub priority : ℕ
-  pub rekey : ℕ
+  pub rekey : Rekey
   pub conf : Bool
   pub early_flag : Bool
   pub suite : Suite

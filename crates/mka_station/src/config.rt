@@ -2,6 +2,7 @@
 
 use lan_base::{Sci, Suite};
 use mka_kdf::Group;
+use sak_exchange::Rekey;
 use std::marker::Model;
 
 /// What a station is set up with, for all its lives. Contracts see it as a `Setup`.
@@ -10,8 +11,8 @@ pub struct Config {
     pub sci: Sci,
     /// The key server priority: the least one serves, 255 never does.
     pub priority: u8,
-    /// The packet number from which on a key is spent.
-    pub rekey: u32,
+    /// From where on a key is spent.
+    pub rekey: Rekey,
     /// Whether keys that the station makes give confidentiality.
     pub conf: bool,
     /// Whether the station has the key server flag also while it has elected nobody.

@@ -1,10 +1,11 @@
 //! One station in one of its lives.
 
-ghost use Rattle.std.specs.Prelude.{◌≡◌, ◌+◌, ◌↔◌, [], List, Some, None, IsTrue, IfOk, min, option_map, cond};
+ghost use Rattle.std.specs.Prelude.{◌≡◌, ◌+◌, ◌≤◌, ◌↔◌, [], List, Some, None, IsNone, IsTrue, IfOk, length, min, option_map, cond};
 ghost use Rattle.lan_base.specs.Identifiers.{same_mi};
 ghost use Rattle.sak_exchange.specs.Held.{held, latest as latest_after, old as old_after, transmitting as transmitting_after};
 ghost use Rattle.sak_exchange.specs.Standing.{most_ticks};
-ghost use Rattle.mka_station.specs.Lives.{Member, Entry, keys_of};
+ghost use Rattle.peer_lists.specs.Peers.{known, row_at};
+ghost use Rattle.mka_station.specs.Lives.{Member, Entry, own, peers_of, keys_of};
 ghost use Rattle.mka_station.specs.Announcing.{same_option};
 ghost use Rattle.mka_station.specs.Standing.{StandsFor, HasRoom, drawn_mi, born};
 
@@ -18,7 +19,7 @@ use crate::peer_view::PeerView;
 use crate::shown::{Spoken, is_same_server};
 use aes_block::Key;
 use lan_base::{Mi, Sci};
-use peer_lists::PeerTable;
+use peer_lists::{PeerTable, Row};
 use sak_exchange::{HeldKey, KeyState};
 use std::alloc::{AllocError, Global};
 use std::marker::Model;
@@ -188,6 +189,17 @@ impl Station {
     {
         let few = self.epochs() < u32::MAX && self.peers().last_sent() < u32::MAX;
         few && self.keys().epochs() < u32::MAX
+    }
+
+    /// What is known of the member at a place among the peers, in ascending order of member identifier, or
+    /// `None` past the last.
+    pub fn row(&self, at: usize) -> Option<Row>
+        ensures row { (m : Member) (p : List Entry) → StandsFor m self.now p →
+            result ≡ row_at (own m) (peers_of m p) at }
+        ensures past { (m : Member) (p : List Entry) → StandsFor m self.now p →
+            IsNone result ↔ (length (known (own m) (peers_of m p)) ≤ at) }
+    {
+        self.peers().row(at)
     }
 
     /// The member identifier of the life.

@@ -2,11 +2,11 @@
 use Rattle.std.specs.List.{AllByRecursion}
 use Rattle.std.specs.Prelude.{◌&&◌}
 use Rattle.std.specs.List.{starts_with}
-use Rattle.std.proofs.Common.{◌≡◌, ℕ, zero, suc, ◌+◌, ◌*◌, ◌/◌, ◌%◌, ◌^◌, ◌<◌, ◌≤◌, Bool, true, false, cond, leb, eqb, List, [], ◌∷◌, ◌++◌, length, drop, Option, Some, None, refl, sym, ap, subst, ◌∙◌, arith, lit<, length-append, length-drop, append_assoc, eq-eqb}
+use Rattle.std.proofs.Common.{◌≡◌, ℕ, zero, suc, ◌+◌, ◌*◌, ◌/◌, ◌%◌, ◌^◌, ◌<◌, ◌≤◌, Bool, true, false, cond, leb, eqb, List, [], ◌∷◌, ◌++◌, length, drop, Option, Some, None, refl, sym, ap, subst, ◌∙◌, arith, lit<, length-append, length-drop, append_assoc, get_or, eq-eqb}
 use Rattle.std.proofs.lemmas.Bool.{le-leb, eqb-true, ne_eqb}
 use Rattle.std.proofs.lemmas.Bool.Decides.{Decides-eqb}
 use Rattle.std.proofs.lemmas.Slice.Eq.{starts_is}
-use Rattle.std.proofs.lemmas.List.{append-nil}
+use Rattle.std.proofs.lemmas.List.{append-nil, drop_at}
 use Rattle.std.proofs.lemmas.List.Elements.{recursion_from_All}
 use Rattle.byteorder.specs.Endian.{big_bytes}
 use Rattle.byteorder.specs.Numbers.{big_number-reads_back}
@@ -15,14 +15,15 @@ use Rattle.lan_base.specs.declared.address.Mi.{Mi}
 use Rattle.lan_base.specs.declared.address.Sci.{Sci}
 use Rattle.mkpdu_codec.specs.declared.announcement.Announcement.{Announcement}
 use Rattle.mkpdu_codec.specs.declared.given.Given.{Given}
+use Rattle.mkpdu_codec.specs.declared.high_halves.HighHalves.{HighHalves}
 use Rattle.mkpdu_codec.specs.declared.key_use.KeyUse.{KeyUse}
 use Rattle.mkpdu_codec.specs.declared.key_use.Uses.{Uses}
 use Rattle.mkpdu_codec.specs.declared.peer.Peer.{Peer}
 use Rattle.mkpdu_codec.specs.declared.wrapped_key.WrappedKey.{WrappedKey}
-use Rattle.mkpdu_codec.specs.declared.wrapped_key.WrappedKey.TheVariants.{Aes128, Aes256, Other}
-use Rattle.mkpdu_codec.specs.Sets.{bit, agility, peer, peers_body, use_body, use_flags, gcm_aes_256, IsPeer, IsKey}
-use Rattle.mkpdu_codec.specs.Frames.{Set, the, SpellsPeers, SpellsUses, IsWide, SpellsKey, SpellsGiven, SpellsBasic}
-use Rattle.mkpdu_codec.specs.Fields.{an_in, offset_in, number_at, mi_at, sci_at, entry_at, entries_at, peers_in, key_at, uses_in, wide_in, key_in, given_in, Basics, basic_in}
+use Rattle.mkpdu_codec.specs.declared.wrapped_key.WrappedKey.TheVariants.{Aes128, Aes256, Xpn128, Xpn256, Other}
+use Rattle.mkpdu_codec.specs.Sets.{bit, agility, peer, peers_body, use_body, use_flags, gcm_aes_256, gcm_aes_xpn_128, gcm_aes_xpn_256, IsPeer, IsKey}
+use Rattle.mkpdu_codec.specs.Frames.{Set, the, SpellsPeers, SpellsUses, IsOfSuite, SpellsKey, SpellsGiven, SpellsHighs, SpellsBasic}
+use Rattle.mkpdu_codec.specs.Fields.{an_in, offset_in, number_at, mi_at, sci_at, entry_at, entries_at, peers_in, key_at, uses_in, wrapped_in, key_in, given_in, highs_in, Basics, basic_in}
 use Rattle.mkpdu_codec.proofs.SetOctets.{length-basic_body}
 use Rattle.mkpdu_codec.proofs.TwoBits.{an_in-number_of, offset_in-offset_bits, offset_bits-few}
 use Rattle.mkpdu_codec.proofs.Taking.{octets_at-append, octets_at-short}
@@ -177,35 +178,60 @@ unfolding given_in
 given_in-or_empty k None = sym (rw (short_number [] (omega arith)) refl)
 given_in-or_empty k (Some s) = refl
 
-pub wide_again : (key wrapped : List ℕ) → IsWide key wrapped → wide_in key ≡ Some wrapped
-wide_again key wrapped is =
-    let len : length key ≡ 48 = ap length is.1 ∙ rw is.0 refl in
-    let starts : starts_with eqb key gcm_aes_256 ≡ true = (starts_is Decides-eqb key gcm_aes_256 (starts_with eqb key gcm_aes_256) refl).1 wrapped is.1 in
-    rw (starts, eq-eqb (length key) 48 len, ap (drop 8) is.1) refl
+pub suite_again : (suite : List ℕ) (count : ℕ) (key wrapped : List ℕ) → length suite ≡ 8 → IsOfSuite suite count key wrapped → wrapped_in suite count key ≡ Some wrapped
+suite_again suite count key wrapped eight is =
+    let len : length key ≡ 8 + count = omega (arith, ap length is.1, length-append suite wrapped, eight, is.0) in
+    let starts : starts_with eqb key suite ≡ true = (starts_is Decides-eqb key suite (starts_with eqb key suite) refl).1 wrapped is.1 in
+    let behind : drop 8 key ≡ wrapped = ap (drop 8) is.1 ∙ drop_at suite wrapped 8 eight in
+    rw (starts, eq-eqb (length key) (8 + count) len, behind) refl
 
--- what is taken as a wrapped key for GCM-AES-256 is one
-pub wide_is : (key wrapped : List ℕ) → wide_in key ≡ Some wrapped → IsWide key wrapped
-wide_is key wrapped e = go (starts_with eqb key gcm_aes_256) (eqb (length key) 48) refl refl e where
-  go : (t l : Bool) → starts_with eqb key gcm_aes_256 ≡ t → eqb (length key) 48 ≡ l → cond (t && l) (Some (drop 8 key)) None ≡ Some wrapped → IsWide key wrapped
+-- what is taken as a wrapped key of a suite is one
+pub suite_is : (suite : List ℕ) (count : ℕ) (key wrapped : List ℕ) → length suite ≡ 8 → wrapped_in suite count key ≡ Some wrapped → IsOfSuite suite count key wrapped
+suite_is suite count key wrapped eight e = go (starts_with eqb key suite) (eqb (length key) (8 + count)) refl refl e where
+  go : (t l : Bool) → starts_with eqb key suite ≡ t → eqb (length key) (8 + count) ≡ l → cond (t && l) (Some (drop 8 key)) None ≡ Some wrapped → IsOfSuite suite count key wrapped
   go true true t l f =
-      let suite : key ≡ gcm_aes_256 ++ drop 8 key = (starts_is Decides-eqb key gcm_aes_256 true (sym t)).0 refl in
+      let front : key ≡ suite ++ drop (length suite) key = (starts_is Decides-eqb key suite true (sym t)).0 refl in
       let same : drop 8 key ≡ wrapped = cc in
-      (omega (arith, eqb-true (length key) 48 l, ap length same, length-drop 8 key), suite ∙ ap (λ (x : List ℕ). gcm_aes_256 ++ x) same)
+      (omega (arith, eqb-true (length key) (8 + count) l, ap length same, length-drop 8 key), front ∙ ap (λ (n : ℕ). suite ++ drop n key) eight ∙ ap (λ (x : List ℕ). suite ++ x) same)
   go true false t l f = absurd cc
   go false l t d f = absurd cc
 
-not_wide : (key : List ℕ) → ((wrapped : List ℕ) → IsWide key wrapped → ⊥) → wide_in key ≡ None
-not_wide key other = go (wide_in key) refl where
-  go : (o : Option (List ℕ)) → wide_in key ≡ o → o ≡ None
+-- what is not taken as one is none
+pub suite_not : (suite : List ℕ) (count : ℕ) (key : List ℕ) → length suite ≡ 8 → wrapped_in suite count key ≡ None → (wrapped : List ℕ) → IsOfSuite suite count key wrapped → ⊥
+suite_not suite count key eight none wrapped is = let some = sym none ∙ suite_again suite count key wrapped eight is in absurd cc
+
+not_suite : (suite : List ℕ) (count : ℕ) (key : List ℕ) → length suite ≡ 8 → ((wrapped : List ℕ) → IsOfSuite suite count key wrapped → ⊥) → wrapped_in suite count key ≡ None
+not_suite suite count key eight other = go (wrapped_in suite count key) refl where
+  go : (o : Option (List ℕ)) → wrapped_in suite count key ≡ o → o ≡ None
   go None e = refl
-  go (Some wrapped) e = absurd (other wrapped (wide_is key wrapped e))
+  go (Some wrapped) e = absurd (other wrapped (suite_is suite count key wrapped eight e))
+
+-- the identifiers of two suites differ in their last octet
+apart : (suite other : List ℕ) (m n : ℕ) (key wrapped : List ℕ) → length suite ≡ 8 → length other ≡ 8 → ((x : List ℕ) → get_or (suite ++ x) 7 0 ≡ m) → ((x : List ℕ) → get_or (other ++ x) 7 0 ≡ n) → (m ≡ n → ⊥)
+    → (count : ℕ) → key ≡ suite ++ wrapped → wrapped_in other count key ≡ None
+apart suite other m n key wrapped eight long last_of last_other differ count is =
+    not_suite other count key long (λ x is_other. differ (sym (last_of wrapped) ∙ ap (λ (y : List ℕ). get_or y 7 0) (sym is ∙ is_other.1) ∙ last_other x))
+
+-- a key with an identifier isn't that of GCM-AES-128
+with_suite : (suite : List ℕ) (count : ℕ) (key wrapped : List ℕ) → length suite ≡ 8 → 24 ≤ count → IsOfSuite suite count key wrapped → eqb (length key) 24 ≡ false
+with_suite suite count key wrapped eight le is = ne_eqb (length key) 24 (λ e. omega (arith, e, ap length is.1, length-append suite wrapped, eight, is.0, le))
 
 wrapped_again : (key : List ℕ) (w : WrappedKey) → SpellsKey key w → key_in key ≡ w
 wrapped_again key (Aes128 wrapped) spells = rw (spells.1, eq-eqb (length wrapped) 24 spells.0) refl
 wrapped_again key (Aes256 wrapped) spells =
-    let long : eqb (length key) 24 ≡ false = ne_eqb (length key) 24 (λ e. omega (arith, e, ap length spells.1, spells.0)) in
-    rw (long, wide_again key wrapped spells) refl
-wrapped_again key Other spells = rw (ne_eqb (length key) 24 spells.0, not_wide key spells.1) refl
+    let long = with_suite gcm_aes_256 40 key wrapped refl (omega arith) spells in
+    rw (long, suite_again gcm_aes_256 40 key wrapped refl spells) refl
+wrapped_again key (Xpn128 wrapped) spells =
+    let long = with_suite gcm_aes_xpn_128 24 key wrapped refl (omega arith) spells in
+    let first = apart gcm_aes_xpn_128 gcm_aes_256 3 2 key wrapped refl refl (λ x. refl) (λ x. refl) (λ e. omega (arith, e)) 40 spells.1 in
+    rw (long, first, suite_again gcm_aes_xpn_128 24 key wrapped refl spells) refl
+wrapped_again key (Xpn256 wrapped) spells =
+    let long = with_suite gcm_aes_xpn_256 40 key wrapped refl (omega arith) spells in
+    let first = apart gcm_aes_xpn_256 gcm_aes_256 4 2 key wrapped refl refl (λ x. refl) (λ x. refl) (λ e. omega (arith, e)) 40 spells.1 in
+    let second = apart gcm_aes_xpn_256 gcm_aes_xpn_128 4 3 key wrapped refl refl (λ x. refl) (λ x. refl) (λ e. omega (arith, e)) 24 spells.1 in
+    rw (long, first, second, suite_again gcm_aes_xpn_256 40 key wrapped refl spells) refl
+wrapped_again key Other spells =
+    rw (ne_eqb (length key) 24 spells.0, not_suite gcm_aes_256 40 key refl spells.1, not_suite gcm_aes_xpn_128 24 key refl spells.2, not_suite gcm_aes_xpn_256 40 key refl spells.3) refl
 
 given_of_set : (s : Set) (g : Option Given) → SpellsGiven s g → given_in (Some s) ≡ g
 unfolding given_in
@@ -219,6 +245,17 @@ given_of_set s (Some g) spells =
 
 pub given_again : (k : ℕ) (ss : List Set) (g : Option Given) → SpellsGiven (the k ss) g → given_in (first k ss) ≡ g
 given_again k ss g spells = given_in-or_empty k (first k ss) ∙ given_of_set (or_empty k (first k ss)) g (subst (λ (s : Set). SpellsGiven s g) (the-first k ss) spells)
+
+-- ---- the XPN parameter set
+
+pub highs_again : (found : Option Set) (h : Option HighHalves) → SpellsHighs found h → highs_in found ≡ h
+unfolding highs_in
+highs_again None None spells = refl
+highs_again None (Some h) spells = absurd spells
+highs_again (Some s) None spells = absurd spells
+highs_again (Some s) (Some h) spells =
+    let last : number_at (big_bytes 4 h.old) ≡ Some (h.old, []) = ap number_at (sym (append-nil (big_bytes 4 h.old))) ∙ number_again h.old [] spells.1.old in
+    rw (spells.0, number_again h.latest (big_bytes 4 h.old) spells.1.latest, last) refl
 
 -- ---- the Basic Parameter Set
 

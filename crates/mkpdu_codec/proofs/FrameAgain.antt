@@ -1,6 +1,6 @@
 -- A frame that spells an announcement is read as that announcement.
 use Rattle.std.specs.Prelude.{◌&&◌, ◌||◌}
-use Rattle.std.specs.List.{AllByRecursion}
+use Rattle.std.specs.List.{AllByRecursion, find}
 use Rattle.std.proofs.Common.{◌≡◌, ◌≢◌, ℕ, ◌+◌, ◌-◌, ◌*◌, ◌/◌, ◌%◌, ◌≤◌, ◌⊎◌, inl, inr, true, false, leb, eqb, List, [], ◌∷◌, ◌++◌, length, get_or, take, drop, Option, Some, None, Ok, refl, sym, ap, subst, ◌∙◌, arith, length-append, eq-eqb}
 use Rattle.std.proofs.Math.Bool.{or-true}
 use Rattle.std.proofs.lemmas.Bool.{eqb-true, le-leb, ne_eqb}
@@ -13,13 +13,13 @@ use Rattle.mkpdu_codec.specs.declared.given.Given.{Given}
 use Rattle.mkpdu_codec.specs.declared.key_use.Uses.{Uses}
 use Rattle.mkpdu_codec.specs.declared.peer.Peer.{Peer}
 use Rattle.mkpdu_codec.specs.Sets.{missing, uses_body, IsPeer, IsKey}
-use Rattle.mkpdu_codec.specs.Frames.{Set, IsSet, AreSets, IsIndicator, Frame, IsFrame, IsBody, covered_octets, octets_of, the, SpellsPeers, SpellsUses, SpellsGiven, Spells}
+use Rattle.mkpdu_codec.specs.Frames.{Set, IsSet, AreSets, IsIndicator, Frame, IsFrame, IsBody, covered_octets, octets_of, the, SpellsPeers, SpellsUses, SpellsGiven, has_highs, Spells}
 use Rattle.mkpdu_codec.specs.Refusals.{is_mka, is_long_enough, body_length}
-use Rattle.mkpdu_codec.specs.Fields.{set_at, basic_at, peers_in, uses_in, given_in}
+use Rattle.mkpdu_codec.specs.Fields.{set_at, basic_at, peers_in, uses_in, given_in, highs_in}
 use Rattle.mkpdu_codec.specs.Reading.{Inner, Gathered, nothing, parts_at, announcement_of, reading}
 use Rattle.mkpdu_codec.proofs.SetOctets.{set_at-is}
 use Rattle.mkpdu_codec.proofs.Header.{parts_are}
-use Rattle.mkpdu_codec.proofs.Again.{basics_of_announcement, basic_again, length-basic, length-peers_body, peers_again, uses_again, given_again}
+use Rattle.mkpdu_codec.proofs.Again.{basics_of_announcement, basic_again, length-basic, length-peers_body, peers_again, uses_again, given_again, highs_again}
 use Rattle.mkpdu_codec.proofs.Walking.{IsShaped, all_placed, once_from_nothing, gathered_again, only_one}
 
 -- ---- the header
@@ -156,9 +156,9 @@ module _ (all : List Set) (a : Announcement) (live : SpellsPeers (the 1 all) a.l
 
 -- ---- the whole frame
 
-told_is : (a : Announcement) (source : Mac) (h : Gathered) → source ≡ a.source → peers_in h.live ≡ a.live → peers_in h.potential ≡ a.potential → uses_in h.uses ≡ a.uses → given_in h.given ≡ a.given
+told_is : (a : Announcement) (source : Mac) (h : Gathered) → source ≡ a.source → peers_in h.live ≡ a.live → peers_in h.potential ≡ a.potential → uses_in h.uses ≡ a.uses → given_in h.given ≡ a.given → highs_in h.highs ≡ a.highs
     → announcement_of source (basics_of_announcement a) h ≡ a
-told_is a source h e1 e2 e3 e4 e5 = rw (e1, e2, e3, e4, e5) refl
+told_is a source h e1 e2 e3 e4 e5 e6 = rw (e1, e2, e3, e4, e5, e6) refl
 
 pub read_again : (frame : List ℕ) (a : Announcement) (covered : ℕ) (check : List ℕ) → Spells frame a covered check
     → reading frame ≡ Ok (record { announcement = a; covered = covered; check = check })
@@ -177,6 +177,6 @@ read_again frame a covered check s =
     let source : Mac = record { 0 = s.parts.source } in
     let from : source ≡ a.source = ap (λ (x : List ℕ). let m : Mac = record { 0 = x } in m) (sym s.source) in
     let told = told_is a source placed_h.0 from
-    (ap peers_in (placed_h.1.1 1 refl) ∙ peers_again 1 s.others a.live s.live) (ap peers_in (placed_h.1.1 2 refl) ∙ peers_again 2 s.others a.potential s.potential)
-    (ap uses_in (placed_h.1.1 3 refl) ∙ uses_again 3 s.others a.uses s.uses) (ap given_in (placed_h.1.1 4 refl) ∙ given_again 4 s.others a.given s.given) in
+    (ap peers_in (placed_h.1.1.0 1 refl) ∙ peers_again 1 s.others a.live s.live) (ap peers_in (placed_h.1.1.0 2 refl) ∙ peers_again 2 s.others a.potential s.potential)
+    (ap uses_in (placed_h.1.1.0 3 refl) ∙ uses_again 3 s.others a.uses s.uses) (ap given_in (placed_h.1.1.0 4 refl) ∙ given_again 4 s.others a.given s.given) (ap highs_in placed_h.1.1.1 ∙ highs_again (find has_highs s.others) a.highs s.highs) in
     ap reading s.whole ∙ rw (parts, basic, basic_again s.basic a s.says, walk, told, ← covers, ← s.checked) refl

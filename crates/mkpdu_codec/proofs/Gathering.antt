@@ -7,9 +7,9 @@ use Rattle.std.proofs.lemmas.List.{nil_from_length, take-append-drop, get_or-tak
 use Rattle.mkpdu_codec.specs.declared.refusal.Refusal.{Refusal}
 use Rattle.mkpdu_codec.specs.Frames.{Set, AreSets, IsIndicator}
 use Rattle.mkpdu_codec.specs.Refusals.{is_whole, is_indicator, is_length_of, is_single, front_kind, front_length, front_size}
-use Rattle.mkpdu_codec.specs.Reading.{◌>>=◌, Gathered, placed, shaped_at, gathered}
+use Rattle.mkpdu_codec.specs.Reading.{◌>>=◌, Gathered, noted, placed, shaped_at, gathered}
 use Rattle.mkpdu_codec.proofs.SetOctets.{IsBytes, IsBytes-drop, front_set, set_at-is_set, length-front_set}
-use Rattle.mkpdu_codec.proofs.Places.{slot, put, placing, placed-is, slot-put}
+use Rattle.mkpdu_codec.proofs.Places.{slot, put, placing, placed-is, slot-put, slot-noted}
 use Rattle.mkpdu_codec.proofs.Loops.{gathered_step}
 use Rattle.mkpdu_codec.proofs.Order.{shaped_at-whole, shaped_at-not, shaped_at-cut}
 use Rattle.mkpdu_codec.proofs.Walking.{IsShaped, placed_all, placed-ok, count, taken, join-none, OnceFrom, HoldsAll, count-here, count-other, not_kind, put_holds, other_holds}
@@ -29,7 +29,7 @@ taken_most (Some s) = omega arith
 
 -- what placing a set gave
 record Placed (g : Gathered) (s : Set) (more : Gathered) : Type 0 where
-  made : ((is_single s.kind ≡ true) × (slot s.kind g ≡ None) × (put s g ≡ more)) ⊎ ((is_single s.kind ≡ false) × (g ≡ more))
+  made : ((is_single s.kind ≡ true) × (slot s.kind g ≡ None) × (put s g ≡ more)) ⊎ ((is_single s.kind ≡ false) × (noted s g ≡ more))
 
 none_is : (o : Option Set) → is_some o ≡ false → o ≡ None
 none_is None e = refl
@@ -54,22 +54,22 @@ once_again g s ss none once k single =
           rw here (omega (arith, l, count-here k s ss e))
       go false e m = let l : taken (slot k g) + count k ss ≤ 1 = rw e at m in omega (arith, l, count-other k s ss e)
 
-other_again : (g : Gathered) (s : Set) (ss : List Set) → is_single s.kind ≡ false → OnceFrom g ss → OnceFrom g (s ∷ ss)
+other_again : (g : Gathered) (s : Set) (ss : List Set) → is_single s.kind ≡ false → OnceFrom (noted s g) ss → OnceFrom g (s ∷ ss)
 other_again g s ss other once k single =
-    let n : taken (slot k g) + count k ss ≤ 1 = once k single in
+    let n = subst (λ (o : Option Set). taken o + count k ss ≤ 1) (slot-noted k s g) (once k single) in
     omega (arith, n, count-other k s ss (not_kind k s other single))
 
 pub all_held : (ss : List Set) (g h : Gathered) → placed_all g ss ≡ Ok h → OnceFrom g ss × HoldsAll g ss h
 all_held [] g h e =
     let same : g ≡ h = cc in
-    (λ k single. (let most = taken_most (slot k g) in omega (arith, most)), λ k single. ap (slot k) (sym same) ∙ join-none (slot k g))
+    (λ k single. (let most = taken_most (slot k g) in omega (arith, most)), (λ k single. ap (slot k) (sym same) ∙ join-none (slot k g), ap (λ (x : Gathered). x.highs) (sym same) ∙ join-none g.highs))
 all_held (s ∷ ss) g h e =
     let p = placed-ok (placed g s) ss h e in
     go (placed_gave g s p.0 p.1.0).made (all_held ss p.0 h p.1.1) where
-      go : {more : Gathered} → ((is_single s.kind ≡ true) × (slot s.kind g ≡ None) × (put s g ≡ more)) ⊎ ((is_single s.kind ≡ false) × (g ≡ more)) → OnceFrom more ss × HoldsAll more ss h → OnceFrom g (s ∷ ss) × HoldsAll g (s ∷ ss) h
+      go : {more : Gathered} → ((is_single s.kind ≡ true) × (slot s.kind g ≡ None) × (put s g ≡ more)) ⊎ ((is_single s.kind ≡ false) × (noted s g ≡ more)) → OnceFrom more ss × HoldsAll more ss h → OnceFrom g (s ∷ ss) × HoldsAll g (s ∷ ss) h
       go (inl made) next =
           let back = subst (λ (x : Gathered). OnceFrom x ss × HoldsAll x ss h) (sym made.2) next in
-          (once_again g s ss made.1 back.0, put_holds g h s ss made.1 back.1)
+          (once_again g s ss made.1 back.0, put_holds g h s ss made.0 made.1 back.1)
       go (inr made) next =
           let back = subst (λ (x : Gathered). OnceFrom x ss × HoldsAll x ss h) (sym made.1) next in
           (other_again g s ss made.0 back.0, other_holds g h s ss made.0 back.1)

@@ -13,7 +13,7 @@ use Rattle.mkpdu_codec.specs.Sets.{agility}
 use Rattle.mkpdu_codec.specs.Frames.{Set}
 use Rattle.mkpdu_codec.specs.Refusals.{is_mka, is_long_enough, check_place, sets_of, others_of, front_kind, front_length, front_size, is_whole, is_indicator, is_length_of, is_single, is_basic, is_known, refused_sets, refused, or_else}
 use Rattle.mkpdu_codec.specs.Fields.{number_at, mi_at, sci_at, Basics, basic_in, basic_at}
-use Rattle.mkpdu_codec.specs.Reading.{◌>>=◌, Gathered, nothing, placed, with_length, shaped_at, gathered, parts_at, reading}
+use Rattle.mkpdu_codec.specs.Reading.{◌>>=◌, Gathered, nothing, noted, placed, with_length, shaped_at, gathered, parts_at, reading}
 use Rattle.mkpdu_codec.proofs.Taking.{octets_at-long}
 use Rattle.mkpdu_codec.proofs.SetOctets.{front_set, set_at-whole, set_at-not, length-front_set}
 use Rattle.mkpdu_codec.proofs.Places.{slot, put, Kinds, kinds, placing, placed-is, HasMet, HasMet-put, HasMet-other}
@@ -76,7 +76,7 @@ module _ (n end : ℕ) (g : Gathered) (met octets : List ℕ) (h : HasMet g met)
   repeated_or b = cond b (Some (Repeated kind)) (refused_sets n end (kind ∷ met) (drop (front_size octets) octets))
 
   unplaced : is_single kind ≡ false → repeated_or (is_single kind && list_any (λ j. eqb j kind) met) ≡ error_of (behind (placing g (front_set octets)))
-  unplaced single = rw single (next g (kind ∷ met) (HasMet-other (front_set octets) g met single h))
+  unplaced single = rw single (next (noted (front_set octets) g) (kind ∷ met) (HasMet-other (front_set octets) g met single h))
 
   repeated : is_single kind ≡ true → list_any (λ j. eqb j kind) met ≡ true → repeated_or (is_single kind && list_any (λ j. eqb j kind) met) ≡ error_of (behind (placing g (front_set octets)))
   repeated single taken = let here = h kind single in rw (single, here, taken) refl

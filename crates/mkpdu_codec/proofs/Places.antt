@@ -1,13 +1,13 @@
 -- Each type from 1 to 4 has its place, and takes it once.
-use Rattle.std.specs.Prelude.{is_some}
+use Rattle.std.specs.Prelude.{is_some, not, ◌&&◌}
 use Rattle.std.specs.List.{list_any}
 use Rattle.std.proofs.Common.{◌≡◌, ◌≢◌, ℕ, ◌≤◌, ◌⊎◌, inl, inr, true, false, cond, leb, eqb, List, ◌∷◌, Option, Some, None, Result, Ok, Err, refl, sym, ap, ◌∙◌, arith}
 use Rattle.std.proofs.lemmas.Bool.{leb-true, eqb-true, eqb-false, and_parts}
 use Rattle.mkpdu_codec.specs.declared.refusal.Refusal.{Refusal}
 use Rattle.mkpdu_codec.specs.declared.refusal.Refusal.TheVariants.{Repeated}
-use Rattle.mkpdu_codec.specs.Frames.{Set}
+use Rattle.mkpdu_codec.specs.Frames.{Set, has_highs}
 use Rattle.mkpdu_codec.specs.Refusals.{is_single}
-use Rattle.mkpdu_codec.specs.Reading.{Gathered, placed}
+use Rattle.mkpdu_codec.specs.Reading.{Gathered, noted, placed}
 
 -- the place of a type
 abbrev pub slot : ℕ → Gathered → Option Set
@@ -20,6 +20,7 @@ put s g = record {
   potential = cond (eqb s.kind 2) (Some s) g.potential;
   uses = cond (eqb s.kind 3) (Some s) g.uses;
   given = cond (eqb s.kind 4) (Some s) g.given;
+  highs = g.highs;
 }
 
 -- a type that has no place
@@ -61,7 +62,7 @@ kinds k =
 
 -- what placing a set gives
 abbrev pub placing : Gathered → Set → Result Gathered Refusal
-placing g s = cond (is_single s.kind) (cond (is_some (slot s.kind g)) (Err (Repeated s.kind)) (Ok (put s g))) (Ok g)
+placing g s = cond (is_single s.kind) (cond (is_some (slot s.kind g)) (Err (Repeated s.kind)) (Ok (put s g))) (Ok (noted s g))
 
 pub placed-is : (g : Gathered) (s : Set) → placed g s ≡ placing g s
 unfolding placed
@@ -82,6 +83,14 @@ slot-put k s g single = go (kinds k) where
   go (inr (inr (inr (inl e)))) = rw e refl
   go (inr (inr (inr (inr o)))) = absurd (let no : true ≡ false = sym single ∙ o.single in cc)
 
+-- keeping high halves leaves the places as they are
+pub slot-noted : (k : ℕ) (s : Set) (g : Gathered) → slot k (noted s g) ≡ slot k g
+slot-noted k s g =
+    elim (has_highs s && not (is_some g.highs)) as (λ t. slot k (cond t (record g { highs = Some s }) g) ≡ slot k g) [
+      | true ↦ refl
+      | false ↦ refl
+    ]
+
 -- the places that are taken are those of the types that were met
 abbrev pub HasMet : Gathered → List ℕ → Type 0
 HasMet g met = (k : ℕ) → is_single k ≡ true → is_some (slot k g) ≡ list_any (λ j. eqb j k) met
@@ -94,8 +103,9 @@ HasMet-put s g met h k single =
       | false ↦ λ e. rw (at, e) (h k single)
     ] refl
 
-pub HasMet-other : (s : Set) (g : Gathered) (met : List ℕ) → is_single s.kind ≡ false → HasMet g met → HasMet g (s.kind ∷ met)
+pub HasMet-other : (s : Set) (g : Gathered) (met : List ℕ) → is_single s.kind ≡ false → HasMet g met → HasMet (noted s g) (s.kind ∷ met)
 HasMet-other s g met other h k single =
+    ap is_some (slot-noted k s g) ∙
     elim (eqb s.kind k) as (λ t. eqb s.kind k ≡ t → is_some (slot k g) ≡ list_any (λ j. eqb j k) (s.kind ∷ met)) [
       | true ↦ λ e. absurd (let same : s.kind ≡ k = eqb-true s.kind k e in let no : true ≡ false = sym single ∙ ap is_single (sym same) ∙ other in cc)
       | false ↦ λ e. rw e (h k single)

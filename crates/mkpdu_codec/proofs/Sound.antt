@@ -1,8 +1,8 @@
 -- What is read of a frame is what the frame spells.
-use Rattle.std.specs.Prelude.{◌||◌}
-use Rattle.std.specs.List.{AllByRecursion}
+use Rattle.std.specs.Prelude.{◌||◌, ◌&&◌}
+use Rattle.std.specs.List.{AllByRecursion, find}
 use Rattle.std.proofs.Common.{◌≡◌, ℕ, zero, suc, ◌+◌, ◌*◌, ◌/◌, ◌%◌, ◌^◌, ◌<◌, ◌≤◌, ◌⊎◌, inl, inr, Bool, true, false, cond, leb, eqb, List, [], ◌∷◌, ◌++◌, length, take, drop, Option, Some, None, refl, sym, ap, subst, ◌∙◌, arith, length-drop, length-take, append_assoc}
-use Rattle.std.proofs.lemmas.Bool.{eqb-true, eqb-false, leb-true}
+use Rattle.std.proofs.lemmas.Bool.{eqb-true, eqb-false, leb-true, and_parts}
 use Rattle.std.proofs.lemmas.List.{append-nil, nil_from_length, take-append-drop}
 use Rattle.std.proofs.lemmas.List.Elements.{All-from_recursion}
 use Rattle.std.proofs.lemmas.Nat.{be_bytes_4}
@@ -10,18 +10,19 @@ use Rattle.byteorder.specs.Endian.{big_number, big_bytes}
 use Rattle.byteorder.specs.Numbers.{big_from-lt}
 use Rattle.lan_base.specs.declared.address.Mi.{Mi}
 use Rattle.mkpdu_codec.specs.declared.given.Given.{Given}
+use Rattle.mkpdu_codec.specs.declared.high_halves.HighHalves.{HighHalves}
 use Rattle.mkpdu_codec.specs.declared.key_use.KeyUse.{KeyUse}
 use Rattle.mkpdu_codec.specs.declared.key_use.Uses.{Uses}
 use Rattle.mkpdu_codec.specs.declared.peer.Peer.{Peer}
 use Rattle.mkpdu_codec.specs.declared.wrapped_key.WrappedKey.TheVariants.{Aes128}
-use Rattle.mkpdu_codec.specs.Sets.{bit, peer, peers_body, use_body, use_flags, IsPeer, IsKey}
-use Rattle.mkpdu_codec.specs.Frames.{Set, the, SpellsPeers, SpellsUses, SpellsKey, SpellsGiven}
+use Rattle.mkpdu_codec.specs.Sets.{bit, peer, peers_body, use_body, use_flags, gcm_aes_256, gcm_aes_xpn_128, gcm_aes_xpn_256, IsPeer, IsKey}
+use Rattle.mkpdu_codec.specs.Frames.{Set, the, SpellsPeers, SpellsUses, SpellsKey, SpellsGiven, has_highs, SpellsHighs}
 use Rattle.mkpdu_codec.specs.Refusals.{is_length_of}
-use Rattle.mkpdu_codec.specs.Fields.{an_in, number_at, mi_at, entry_at, entries_at, entries_from, peers_in, key_at, uses_in, wide_in, wide_or_other, key_in, given_in}
+use Rattle.mkpdu_codec.specs.Fields.{an_in, number_at, mi_at, entry_at, entries_at, entries_from, peers_in, key_at, uses_in, wrapped_in, of_suites, key_in, given_in, highs_in}
 use Rattle.mkpdu_codec.proofs.TwoBits.{number_of-an_in, offset_bits-offset_in}
 use Rattle.mkpdu_codec.proofs.Taking.{octets_at-long}
 use Rattle.mkpdu_codec.proofs.SetOctets.{IsBytes, IsBytes-drop}
-use Rattle.mkpdu_codec.proofs.Again.{first, the-first, peers_in-or_empty, uses_in-or_empty, given_in-or_empty, short_number, wide_again, wide_is}
+use Rattle.mkpdu_codec.proofs.Again.{first, the-first, peers_in-or_empty, uses_in-or_empty, given_in-or_empty, short_number, suite_is, suite_not}
 use Rattle.mkpdu_codec.proofs.Gathering.{IsBytes-take, IsRead}
 use Rattle.mkpdu_codec.proofs.Walking.{IsShaped}
 
@@ -169,11 +170,14 @@ uses_are ss all =
 -- ---- Distributed SAK
 
 key_is_of : (key : List ℕ) → SpellsKey key (key_in key)
-key_is_of key = go (eqb (length key) 24) refl (wide_in key) refl where
-  go : (t : Bool) → eqb (length key) 24 ≡ t → (w : Option (List ℕ)) → wide_in key ≡ w → SpellsKey key (cond t (Aes128 key) (wide_or_other w))
-  go true t w e = (eqb-true (length key) 24 t, refl)
-  go false t None e = (eqb-false (length key) 24 t, λ wrapped is. absurd (let d = sym e ∙ wide_again key wrapped is in cc))
-  go false t (Some wrapped) e = wide_is key wrapped e
+key_is_of key = go (eqb (length key) 24) refl (wrapped_in gcm_aes_256 40 key) refl (wrapped_in gcm_aes_xpn_128 24 key) refl (wrapped_in gcm_aes_xpn_256 40 key) refl where
+  go : (t : Bool) → eqb (length key) 24 ≡ t → (w : Option (List ℕ)) → wrapped_in gcm_aes_256 40 key ≡ w → (x : Option (List ℕ)) → wrapped_in gcm_aes_xpn_128 24 key ≡ x
+      → (y : Option (List ℕ)) → wrapped_in gcm_aes_xpn_256 40 key ≡ y → SpellsKey key (cond t (Aes128 key) (of_suites w x y))
+  go true t w e x d y c = (eqb-true (length key) 24 t, refl)
+  go false t (Some wrapped) e x d y c = suite_is gcm_aes_256 40 key wrapped refl e
+  go false t None e (Some wrapped) d y c = suite_is gcm_aes_xpn_128 24 key wrapped refl d
+  go false t None e None d (Some wrapped) c = suite_is gcm_aes_xpn_256 40 key wrapped refl c
+  go false t None e None d None c = (eqb-false (length key) 24 t, suite_not gcm_aes_256 40 key refl e, suite_not gcm_aes_xpn_128 24 key refl d, suite_not gcm_aes_xpn_256 40 key refl c)
 
 given_are_of : (s : Set) → IsBytes s.body → s.second < 256 → is_length_of 4 (length s.body) ≡ true → SpellsGiven s (given_in (Some s))
 unfolding given_in
@@ -198,3 +202,29 @@ given_are ss all =
     let r = the_read 4 ss refl all in
     let same : given_in (first 4 ss) ≡ given_in (Some (the 4 ss)) = given_in-or_empty 4 (first 4 ss) ∙ ap (λ (s : Set). given_in (Some s)) (sym (the-first 4 ss)) in
     subst (λ (g : Option Given). SpellsGiven (the 4 ss) g) (sym same) (given_are_of (the 4 ss) r.1 r.2 (shape_at 4 (the 4 ss) r.0 r.3))
+
+-- ---- the XPN parameter set
+
+highs_are_of : (s : Set) → IsBytes s.body → has_highs s ≡ true → SpellsHighs (Some s) (highs_in (Some s))
+unfolding highs_in
+highs_are_of s bytes e =
+    let parts = and_parts (eqb s.kind 8) (eqb (length s.body) 8) e in
+    let eight : length s.body ≡ 8 = eqb-true (length s.body) 8 parts.1 in
+    let behind : 4 ≤ length (drop 4 s.body) = omega (arith, eight, length-drop 4 s.body) in
+    let bytes_behind = IsBytes-drop 4 s.body bytes in
+    let last : drop 4 (drop 4 s.body) ≡ [] = nil_from_length (drop 4 (drop 4 s.body)) (omega (arith, eight, length-drop 4 (drop 4 s.body), length-drop 4 s.body)) in
+    let old : drop 4 s.body ≡ big_bytes 4 (big_number 4 (take 4 (drop 4 s.body))) =
+    number_front (drop 4 s.body) bytes_behind behind ∙ ap (λ (x : List ℕ). big_bytes 4 (big_number 4 (take 4 (drop 4 s.body))) ++ x) last ∙ append-nil (big_bytes 4 (big_number 4 (take 4 (drop 4 s.body)))) in
+    rw (number_long s.body (omega (arith, eight)), number_long (drop 4 s.body) behind) (
+      number_front s.body bytes (omega (arith, eight)) ∙ ap (λ (x : List ℕ). big_bytes 4 (big_number 4 (take 4 s.body)) ++ x) old,
+      record { latest = number_below s.body bytes; old = number_below (drop 4 s.body) bytes_behind },
+    )
+
+pub highs_are : (ss : List Set) → AllByRecursion IsRead ss → SpellsHighs (find has_highs ss) (highs_in (find has_highs ss))
+unfolding highs_in
+highs_are [] all = tt
+highs_are (s ∷ ss) all =
+    elim (has_highs s) as (λ t. has_highs s ≡ t → SpellsHighs (cond t (Some s) (find has_highs ss)) (highs_in (cond t (Some s) (find has_highs ss)))) [
+      | true ↦ λ e. highs_are_of s all.0.body e
+      | false ↦ λ e. highs_are ss all.1
+    ] refl

@@ -47,6 +47,7 @@ with_check frame a m c check behind s sixteen =
       potential = s.potential;
       uses = s.uses;
       given = s.given;
+      highs = s.highs;
     }
 
 length-check : (frame : List ℕ) (a : Announcement) (m : ℕ) (c : List ℕ) → Spells frame a m c → length c ≡ 16

@@ -1,15 +1,15 @@
 -- The sets of a body are gathered, each in the place of its type.
-use Rattle.std.specs.Prelude.{count_by}
-use Rattle.std.specs.List.{AllByRecursion}
+use Rattle.std.specs.Prelude.{count_by, is_some, not, ◌&&◌}
+use Rattle.std.specs.List.{AllByRecursion, find}
 use Rattle.std.proofs.Common.{◌≡◌, ◌≢◌, ℕ, zero, suc, ◌+◌, ◌*◌, ◌/◌, ◌%◌, ◌≤◌, ◌⊎◌, inl, inr, Bool, true, false, cond, eqb, List, [], ◌∷◌, ◌++◌, length, Option, Some, None, Result, Ok, Err, refl, sym, ap, subst, ◌∙◌, arith, length-append, append_assoc, eq-eqb}
 use Rattle.std.proofs.lemmas.Bool.{eqb-true, eqb-false, ne_eqb}
 use Rattle.std.proofs.lemmas.List.Sums.{sum_by-cons}
 use Rattle.mkpdu_codec.specs.declared.refusal.Refusal.{Refusal}
-use Rattle.mkpdu_codec.specs.Frames.{Set, IsSet, AreSets, IsIndicator, the}
+use Rattle.mkpdu_codec.specs.Frames.{Set, IsSet, AreSets, IsIndicator, the, has_highs}
 use Rattle.mkpdu_codec.specs.Refusals.{is_indicator, is_length_of, is_single, front_kind}
-use Rattle.mkpdu_codec.specs.Reading.{◌>>=◌, Gathered, nothing, placed, shaped_at, gathered}
+use Rattle.mkpdu_codec.specs.Reading.{◌>>=◌, Gathered, nothing, noted, placed, shaped_at, gathered}
 use Rattle.mkpdu_codec.proofs.SetOctets.{set_at-is}
-use Rattle.mkpdu_codec.proofs.Places.{slot, put, placed-is, slot-put, single_range}
+use Rattle.mkpdu_codec.proofs.Places.{slot, put, placed-is, slot-put, slot-noted, single_range}
 use Rattle.mkpdu_codec.proofs.Loops.{Goes, gathered_step, gathered_stop, gathered_stop_at}
 use Rattle.mkpdu_codec.proofs.Again.{first}
 
@@ -55,9 +55,29 @@ join-none (Some s) = refl
 abbrev pub OnceFrom : Gathered → List Set → Type 0
 OnceFrom g ss = (k : ℕ) → is_single k ≡ true → taken (slot k g) + count k ss ≤ 1
 
--- the places are those of the sets
+-- the places are those of the sets, and the high halves those of the first set that has them
 abbrev pub HoldsAll : Gathered → List Set → Gathered → Type 0
-HoldsAll g ss h = (k : ℕ) → is_single k ≡ true → slot k h ≡ join (slot k g) (first k ss)
+HoldsAll g ss h =
+    ((k : ℕ) → is_single k ≡ true → slot k h ≡ join (slot k g) (first k ss))
+    × (h.highs ≡ join g.highs (find has_highs ss))
+
+-- a set of a type that has a place has no high halves
+without_highs : (s : Set) → is_single s.kind ≡ true → has_highs s ≡ false
+without_highs s single =
+    let in_range = single_range s.kind single in
+    let other : eqb s.kind 8 ≡ false = ne_eqb s.kind 8 (λ e. omega (arith, e, in_range.1)) in
+    rw other refl
+
+-- the high halves that are kept are those that were, or else those of the set
+noted_highs : (s : Set) (g : Gathered) (o : Option Set) → join (noted s g).highs o ≡ join g.highs (cond (has_highs s) (Some s) o)
+noted_highs s g o =
+    elim (has_highs s) as (λ t. join (cond (t && not (is_some g.highs)) (record g { highs = Some s }) g).highs o ≡ join g.highs (cond t (Some s) o)) [
+      | true ↦ go g.highs refl
+      | false ↦ refl
+    ] where
+      go : (x : Option Set) → g.highs ≡ x → join (cond (true && not (is_some g.highs)) (record g { highs = Some s }) g).highs o ≡ join g.highs (Some s)
+      go None e = rw e refl
+      go (Some t) e = rw e refl
 
 pub not_kind : (k : ℕ) (s : Set) → is_single s.kind ≡ false → is_single k ≡ true → eqb s.kind k ≡ false
 not_kind k s other single = ne_eqb s.kind k (λ same. absurd (let clash : true ≡ false = sym single ∙ ap is_single (sym same) ∙ other in cc))
@@ -79,37 +99,43 @@ put_once g s ss once k single =
       | false ↦ λ e. rw (slot-put k s g single, e) (omega (arith, n, count-other k s ss e))
     ] refl
 
-pub put_holds : (g h : Gathered) (s : Set) (ss : List Set) → slot s.kind g ≡ None → HoldsAll (put s g) ss h → HoldsAll g (s ∷ ss) h
-put_holds g h s ss none holds k single =
-    holds k single ∙ ap (λ (o : Option Set). join o (first k ss)) (slot-put k s g single) ∙ go where
-      go : join (cond (eqb s.kind k) (Some s) (slot k g)) (first k ss) ≡ join (slot k g) (cond (eqb s.kind k) (Some s) (first k ss))
-      go =
-          elim (eqb s.kind k) as (λ t. eqb s.kind k ≡ t → join (cond t (Some s) (slot k g)) (first k ss) ≡ join (slot k g) (cond t (Some s) (first k ss))) [
-            | true ↦ λ e. let same : slot k g ≡ None = ap (λ (j : ℕ). slot j g) (sym (eqb-true s.kind k e)) ∙ none in rw same refl
-            | false ↦ λ e. refl
-          ] refl
+pub put_holds : (g h : Gathered) (s : Set) (ss : List Set) → is_single s.kind ≡ true → slot s.kind g ≡ None → HoldsAll (put s g) ss h → HoldsAll g (s ∷ ss) h
+put_holds g h s ss one none holds = (places, holds.1 ∙ (let no = without_highs s one in rw no refl)) where
+  places : (k : ℕ) → is_single k ≡ true → slot k h ≡ join (slot k g) (first k (s ∷ ss))
+  places k single =
+      holds.0 k single ∙ ap (λ (o : Option Set). join o (first k ss)) (slot-put k s g single) ∙ go where
+        go : join (cond (eqb s.kind k) (Some s) (slot k g)) (first k ss) ≡ join (slot k g) (cond (eqb s.kind k) (Some s) (first k ss))
+        go =
+            elim (eqb s.kind k) as (λ t. eqb s.kind k ≡ t → join (cond t (Some s) (slot k g)) (first k ss) ≡ join (slot k g) (cond t (Some s) (first k ss))) [
+              | true ↦ λ e. let same : slot k g ≡ None = ap (λ (j : ℕ). slot j g) (sym (eqb-true s.kind k e)) ∙ none in rw same refl
+              | false ↦ λ e. refl
+            ] refl
 
-other_once : (g : Gathered) (s : Set) (ss : List Set) → is_single s.kind ≡ false → OnceFrom g (s ∷ ss) → OnceFrom g ss
+other_once : (g : Gathered) (s : Set) (ss : List Set) → is_single s.kind ≡ false → OnceFrom g (s ∷ ss) → OnceFrom (noted s g) ss
 other_once g s ss other once k single =
     let n : taken (slot k g) + count k (s ∷ ss) ≤ 1 = once k single in
-    omega (arith, n, count-other k s ss (not_kind k s other single))
+    subst (λ (o : Option Set). taken o + count k ss ≤ 1) (sym (slot-noted k s g))
+    (omega (arith, n, count-other k s ss (not_kind k s other single)))
 
-pub other_holds : (g h : Gathered) (s : Set) (ss : List Set) → is_single s.kind ≡ false → HoldsAll g ss h → HoldsAll g (s ∷ ss) h
-other_holds g h s ss other holds k single = holds k single ∙ (let e = not_kind k s other single in rw e refl)
+pub other_holds : (g h : Gathered) (s : Set) (ss : List Set) → is_single s.kind ≡ false → HoldsAll (noted s g) ss h → HoldsAll g (s ∷ ss) h
+other_holds g h s ss other holds = (
+  λ k single. holds.0 k single ∙ ap (λ (o : Option Set). join o (first k ss)) (slot-noted k s g) ∙ (let e = not_kind k s other single in rw e refl),
+  holds.1 ∙ noted_highs s g (find has_highs ss),
+)
 
 -- sets of which none comes twice all take their places
 pub all_placed : (ss : List Set) (g : Gathered) → OnceFrom g ss → (h : Gathered) × ((placed_all g ss ≡ Ok h) × HoldsAll g ss h)
-all_placed [] g once = (g, (refl, λ k single. join-none (slot k g)))
+all_placed [] g once = (g, (refl, (λ k single. join-none (slot k g), join-none g.highs)))
 all_placed (s ∷ ss) g once =
     elim (is_single s.kind) as (λ t. is_single s.kind ≡ t → (h : Gathered) × ((placed_all g (s ∷ ss) ≡ Ok h) × HoldsAll g (s ∷ ss) h)) [
       | true ↦ λ single.
           let none = free_slot g s ss once single in
           let next = all_placed ss (put s g) (put_once g s ss once) in
           let here : placed g s ≡ Ok (put s g) = placed-is g s ∙ rw (single, none) refl in
-          (next.0, (rw here next.1.0, put_holds g next.0 s ss none next.1.1))
+          (next.0, (rw here next.1.0, put_holds g next.0 s ss single none next.1.1))
       | false ↦ λ other.
-          let next = all_placed ss g (other_once g s ss other once) in
-          let here : placed g s ≡ Ok g = placed-is g s ∙ rw other refl in
+          let next = all_placed ss (noted s g) (other_once g s ss other once) in
+          let here : placed g s ≡ Ok (noted s g) = placed-is g s ∙ rw other refl in
           (next.0, (rw here next.1.0, other_holds g next.0 s ss other next.1.1))
     ] refl
 

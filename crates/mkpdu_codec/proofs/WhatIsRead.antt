@@ -1,6 +1,6 @@
 -- A frame that is read spells what was read.
 use Rattle.std.specs.Prelude.{◌&&◌, not}
-use Rattle.std.specs.List.{AllByRecursion}
+use Rattle.std.specs.List.{AllByRecursion, find}
 use Rattle.std.proofs.Common.{◌≡◌, ◌≢◌, ℕ, ◌+◌, ◌-◌, ◌*◌, ◌/◌, ◌%◌, ◌<◌, ◌≤◌, ◌⊎◌, inl, inr, Bool, true, false, cond, leb, eqb, List, [], ◌∷◌, ◌++◌, length, get_or, take, drop, Option, Some, Result, Ok, Err, refl, sym, ap, subst, ◌∙◌, arith, length-append, length-drop, length-take, append_assoc}
 use Rattle.std.proofs.lemmas.Bool.{eqb-true, leb-true, le-leb, and_parts}
 use Rattle.std.proofs.lemmas.List.{nil_from_length, take-append-drop, drop-drop, get_or-take, get_or-drop}
@@ -14,9 +14,9 @@ use Rattle.mkpdu_codec.specs.declared.refusal.Refusal.{Refusal}
 use Rattle.mkpdu_codec.specs.declared.refusal.Refusal.TheVariants.{Agility}
 use Rattle.mkpdu_codec.specs.declared.spelled.Spelled.{Spelled}
 use Rattle.mkpdu_codec.specs.Sets.{agility}
-use Rattle.mkpdu_codec.specs.Frames.{Set, Frame, IsFrame, covered_octets, octets_of, the, SpellsPeers, SpellsUses, SpellsGiven, SpellsBasic, Spells}
+use Rattle.mkpdu_codec.specs.Frames.{Set, Frame, IsFrame, covered_octets, octets_of, the, SpellsPeers, SpellsUses, SpellsGiven, SpellsBasic, has_highs, SpellsHighs, Spells}
 use Rattle.mkpdu_codec.specs.Refusals.{is_mka, is_long_enough, body_length, check_place, sets_of, others_of, is_basic, is_whole, is_single, is_known, front_length, front_size, refused}
-use Rattle.mkpdu_codec.specs.Fields.{peers_in, uses_in, given_in}
+use Rattle.mkpdu_codec.specs.Fields.{peers_in, uses_in, given_in, highs_in}
 use Rattle.mkpdu_codec.specs.Reading.{◌>>=◌, Gathered, nothing, gathered, parts_at, announcement_of, reading}
 use Rattle.mkpdu_codec.proofs.Header.{long_enough-32, long_enough-whole, length-sets_of}
 use Rattle.mkpdu_codec.proofs.SetOctets.{IsBytes, IsBytes-drop, front_set, set_at-is_set, length-front_set}
@@ -24,7 +24,7 @@ use Rattle.mkpdu_codec.proofs.Order.{error_of, refused-is, basics_in, basic_at-i
 use Rattle.mkpdu_codec.proofs.Walking.{shaped_kind}
 use Rattle.mkpdu_codec.proofs.FrameAgain.{by_six}
 use Rattle.mkpdu_codec.proofs.Gathering.{IsBytes-take, IsRead, walked, all_held}
-use Rattle.mkpdu_codec.proofs.Sound.{number_front, number_below, bit_of, peers_are, uses_are, given_are}
+use Rattle.mkpdu_codec.proofs.Sound.{number_front, number_below, bit_of, peers_are, uses_are, given_are, highs_are}
 
 -- a list of six is its six octets
 six : (xs : List ℕ) → length xs ≡ 6 → xs ≡ get_or xs 0 0 ∷ get_or xs 1 0 ∷ get_or xs 2 0 ∷ get_or xs 3 0 ∷ get_or xs 4 0 ∷ get_or xs 5 0 ∷ []
@@ -192,10 +192,11 @@ spelled_from frame bytes m l b h gathers known =
       checked = refl;
       source = refl;
       says = says_basic (front_set (sets_of frame)) (record { 0 = take 6 (drop 6 frame) }) h (IsBytes-take (front_length (sets_of frame)) (drop 4 (sets_of frame)) (IsBytes-drop 4 (sets_of frame) sets_bytes)) (rw len basic.1) (rw len most) set.flags known;
-      live = subst (λ (o : Option Set). SpellsPeers (the 1 walk.others) (peers_in o)) (sym (held.1 1 refl)) (peers_are 1 walk.others refl (λ n e. eqb-true (n % 16) 0 e) walk.read);
-      potential = subst (λ (o : Option Set). SpellsPeers (the 2 walk.others) (peers_in o)) (sym (held.1 2 refl)) (peers_are 2 walk.others refl (λ n e. eqb-true (n % 16) 0 e) walk.read);
-      uses = subst (λ (o : Option Set). SpellsUses (the 3 walk.others) (uses_in o)) (sym (held.1 3 refl)) (uses_are walk.others walk.read);
-      given = subst (λ (o : Option Set). SpellsGiven (the 4 walk.others) (given_in o)) (sym (held.1 4 refl)) (given_are walk.others walk.read);
+      live = subst (λ (o : Option Set). SpellsPeers (the 1 walk.others) (peers_in o)) (sym (held.1.0 1 refl)) (peers_are 1 walk.others refl (λ n e. eqb-true (n % 16) 0 e) walk.read);
+      potential = subst (λ (o : Option Set). SpellsPeers (the 2 walk.others) (peers_in o)) (sym (held.1.0 2 refl)) (peers_are 2 walk.others refl (λ n e. eqb-true (n % 16) 0 e) walk.read);
+      uses = subst (λ (o : Option Set). SpellsUses (the 3 walk.others) (uses_in o)) (sym (held.1.0 3 refl)) (uses_are walk.others walk.read);
+      given = subst (λ (o : Option Set). SpellsGiven (the 4 walk.others) (given_in o)) (sym (held.1.0 4 refl)) (given_are walk.others walk.read);
+      highs = subst (λ (o : Option Set). SpellsHighs (find has_highs walk.others) (highs_in o)) (sym held.1.1) (highs_are walk.others walk.read);
     }
 
 -- reading that succeeded, taken apart

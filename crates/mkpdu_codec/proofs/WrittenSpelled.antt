@@ -1,6 +1,6 @@
 -- What is written, followed by a check value, spells what was written.
 use Rattle.std.specs.Prelude.{All, IfSome, replicate}
-use Rattle.std.specs.List.{AllByRecursion}
+use Rattle.std.specs.List.{AllByRecursion, find}
 use Rattle.std.proofs.Common.{◌≡◌, ◌≢◌, ℕ, zero, suc, ◌+◌, ◌*◌, ◌^◌, ◌<◌, ◌≤◌, inl, Bool, true, false, cond, eqb, List, [], ◌∷◌, ◌++◌, length, Option, Some, None, refl, sym, ap, subst, ◌∙◌, arith, lit<, lit≤, length-append, length-take, append_assoc}
 use Rattle.std.proofs.lemmas.Bool.{ne_eqb}
 use Rattle.std.proofs.lemmas.List.{append-nil, length-replicate}
@@ -8,13 +8,14 @@ use Rattle.std.proofs.lemmas.List.Elements.{All-from_recursion, recursion_from_A
 use Rattle.byteorder.specs.Endian.{big_bytes}
 use Rattle.mkpdu_codec.specs.declared.announcement.Announcement.{Announcement}
 use Rattle.mkpdu_codec.specs.declared.given.Given.{Given}
+use Rattle.mkpdu_codec.specs.declared.high_halves.HighHalves.{HighHalves}
 use Rattle.mkpdu_codec.specs.declared.key_use.Uses.{Uses}
 use Rattle.mkpdu_codec.specs.declared.peer.Peer.{Peer}
 use Rattle.mkpdu_codec.specs.declared.wrapped_key.WrappedKey.{WrappedKey}
-use Rattle.mkpdu_codec.specs.declared.wrapped_key.WrappedKey.TheVariants.{Aes128, Aes256, Other}
-use Rattle.mkpdu_codec.specs.Sets.{bit, missing, set, basic_body, peers_body, uses_body, uses_flags, given_body, given_flags, gcm_aes_256, IsPeer, IsKey, IsWrapped, IsGiven}
+use Rattle.mkpdu_codec.specs.declared.wrapped_key.WrappedKey.TheVariants.{Aes128, Aes256, Xpn128, Xpn256, Other}
+use Rattle.mkpdu_codec.specs.Sets.{bit, missing, set, basic_body, peers_body, uses_body, uses_flags, given_body, given_flags, gcm_aes_256, gcm_aes_xpn_128, gcm_aes_xpn_256, IsPeer, IsKey, IsWrapped, IsGiven}
 use Rattle.mkpdu_codec.specs.Written.{group_address, frame_header, basic_set, peers_set, uses_set, giving_set, key_set, given_set, sets, written, IsWritable, IsWritableKey}
-use Rattle.mkpdu_codec.specs.Frames.{Set, IsSet, AreSets, the, SpellsPeers, SpellsUses, IsGiving, SpellsGiven, Spells, IsOfItsTypes}
+use Rattle.mkpdu_codec.specs.Frames.{Set, IsSet, AreSets, the, SpellsPeers, SpellsUses, IsGiving, SpellsGiven, has_highs, SpellsHighs, Spells, IsOfItsTypes}
 use Rattle.mkpdu_codec.proofs.SetOctets.{length-set, length-basic_body}
 use Rattle.mkpdu_codec.proofs.Again.{length-peers_body}
 use Rattle.mkpdu_codec.proofs.FrameAgain.{length-uses_body}
@@ -39,6 +40,8 @@ giving g key = record { kind = 4; second = given_flags g.an g.offset * 16; flags
 abbrev key_written : Given → WrappedKey → List Set
 key_written g (Aes128 wrapped) = giving g wrapped ∷ []
 key_written g (Aes256 wrapped) = giving g (gcm_aes_256 ++ wrapped) ∷ []
+key_written g (Xpn128 wrapped) = giving g (gcm_aes_xpn_128 ++ wrapped) ∷ []
+key_written g (Xpn256 wrapped) = giving g (gcm_aes_xpn_256 ++ wrapped) ∷ []
 key_written g Other = []
 
 abbrev given_written : Option Given → List Set
@@ -74,6 +77,8 @@ are_giving g key le = one_set (giving_set g key) (giving g key) (is_set 4 (given
 are_key : (g : Given) (w : WrappedKey) → IsWrapped w → AreSets (key_set g w) (key_written g w)
 are_key g (Aes128 wrapped) is = are_giving g wrapped (omega (arith, is))
 are_key g (Aes256 wrapped) is = are_giving g (gcm_aes_256 ++ wrapped) (omega (arith, is))
+are_key g (Xpn128 wrapped) is = are_giving g (gcm_aes_xpn_128 ++ wrapped) (omega (arith, is))
+are_key g (Xpn256 wrapped) is = are_giving g (gcm_aes_xpn_256 ++ wrapped) (omega (arith, is))
 are_key g Other is = refl
 
 are_given : (g : Option Given) → IfSome g IsGiven → AreSets (given_set g) (given_written g)
@@ -94,6 +99,8 @@ skips_uses k (Some u) rest e = rw e refl
 skips_key : (k : ℕ) (g : Given) (w : WrappedKey) → eqb 4 k ≡ false → the k (key_written g w) ≡ the k []
 skips_key k g (Aes128 wrapped) e = rw e refl
 skips_key k g (Aes256 wrapped) e = rw e refl
+skips_key k g (Xpn128 wrapped) e = rw e refl
+skips_key k g (Xpn256 wrapped) e = rw e refl
 skips_key k g Other e = refl
 
 skips_given : (k : ℕ) (g : Option Given) → eqb 4 k ≡ false → the k (given_written g) ≡ the k []
@@ -126,6 +133,8 @@ spells_uses live potential u g is = subst (λ (s : Set). SpellsUses s u) (sym (s
 spells_key : (g : Given) (w : WrappedKey) → g.key ≡ w → g.number < 2 ^ 32 → IsWrapped w → IsWritableKey w → IsGiving (the 4 (key_written g w)) g
 spells_key g (Aes128 wrapped) e n is may = record { key = wrapped; second = omega arith; number = n; body = refl; spells = rw e (is, refl) }
 spells_key g (Aes256 wrapped) e n is may = record { key = gcm_aes_256 ++ wrapped; second = omega arith; number = n; body = refl; spells = rw e (is, refl) }
+spells_key g (Xpn128 wrapped) e n is may = record { key = gcm_aes_xpn_128 ++ wrapped; second = omega arith; number = n; body = refl; spells = rw e (is, refl) }
+spells_key g (Xpn256 wrapped) e n is may = record { key = gcm_aes_xpn_256 ++ wrapped; second = omega arith; number = n; body = refl; spells = rw e (is, refl) }
 spells_key g Other e n is may = absurd may
 
 spells_given : (live potential : List Peer) (u : Option Uses) (g : Option Given) → IfSome g IsGiven → IfSome g (λ v. IsWritableKey v.key) → SpellsGiven (the 4 (all_written live potential u g)) g
@@ -151,6 +160,8 @@ count-uses k (Some u) = count-most k 3 (record { kind = 3; second = uses_flags u
 count-key : (k : ℕ) (g : Given) (w : WrappedKey) → count k (key_written g w) ≤ cond (eqb 4 k) 1 0
 count-key k g (Aes128 wrapped) = count-most k 4 (giving g wrapped) refl
 count-key k g (Aes256 wrapped) = count-most k 4 (giving g (gcm_aes_256 ++ wrapped)) refl
+count-key k g (Xpn128 wrapped) = count-most k 4 (giving g (gcm_aes_xpn_128 ++ wrapped)) refl
+count-key k g (Xpn256 wrapped) = count-most k 4 (giving g (gcm_aes_xpn_256 ++ wrapped)) refl
 count-key k g Other = omega arith
 
 count-given : (k : ℕ) (g : Option Given) → count k (given_written g) ≤ cond (eqb 4 k) 1 0
@@ -198,6 +209,8 @@ none_in_uses (Some u) = ((λ e. omega (arith, e)), tt)
 none_in_key : (g : Given) (w : WrappedKey) → NoIndicator (key_written g w)
 none_in_key g (Aes128 wrapped) = ((λ e. omega (arith, e)), tt)
 none_in_key g (Aes256 wrapped) = ((λ e. omega (arith, e)), tt)
+none_in_key g (Xpn128 wrapped) = ((λ e. omega (arith, e)), tt)
+none_in_key g (Xpn256 wrapped) = ((λ e. omega (arith, e)), tt)
 none_in_key g Other = tt
 
 none_in_given : (g : Option Given) → NoIndicator (given_written g)
@@ -209,6 +222,45 @@ none_written live potential u g =
     none_in_both (peers_written 1 live) (peers_written 2 potential ++ (uses_written u ++ given_written g)) (none_in_peers 1 live (λ e. omega (arith, e)))
     (none_in_both (peers_written 2 potential) (uses_written u ++ given_written g) (none_in_peers 2 potential (λ e. omega (arith, e)))
     (none_in_both (uses_written u) (given_written g) (none_in_uses u) (none_in_given g)))
+
+-- ---- none of them has high halves
+
+without : (ss ts : List Set) → find has_highs ss ≡ None → find has_highs ts ≡ None → find has_highs (ss ++ ts) ≡ None
+without [] ts x y = y
+without (s ∷ ss) ts x y =
+    elim (has_highs s) as (λ t. cond t (Some s) (find has_highs ss) ≡ None → cond t (Some s) (find has_highs (ss ++ ts)) ≡ None) [
+      | true ↦ λ e. absurd cc
+      | false ↦ λ e. without ss ts e y
+    ] x
+
+without_in_peers : (kind : ℕ) (ps : List Peer) → eqb kind 8 ≡ false → find has_highs (peers_written kind ps) ≡ None
+without_in_peers kind [] other = refl
+without_in_peers kind (p ∷ ps) other = rw other refl
+
+without_in_uses : (u : Option Uses) → find has_highs (uses_written u) ≡ None
+without_in_uses None = refl
+without_in_uses (Some u) = refl
+
+without_in_key : (g : Given) (w : WrappedKey) → find has_highs (key_written g w) ≡ None
+without_in_key g (Aes128 wrapped) = refl
+without_in_key g (Aes256 wrapped) = refl
+without_in_key g (Xpn128 wrapped) = refl
+without_in_key g (Xpn256 wrapped) = refl
+without_in_key g Other = refl
+
+without_in_given : (g : Option Given) → find has_highs (given_written g) ≡ None
+without_in_given None = refl
+without_in_given (Some g) = without_in_key g g.key
+
+spells_none : (found : Option Set) (h : Option HighHalves) → found ≡ None → h ≡ None → SpellsHighs found h
+spells_none found h e d = rw (e, d) tt
+
+spells_highs : (live potential : List Peer) (u : Option Uses) (g : Option Given) (h : Option HighHalves) → h ≡ None → SpellsHighs (find has_highs (all_written live potential u g)) h
+spells_highs live potential u g h none =
+    spells_none (find has_highs (all_written live potential u g)) h
+    (without (peers_written 1 live) (peers_written 2 potential ++ (uses_written u ++ given_written g)) (without_in_peers 1 live refl)
+    (without (peers_written 2 potential) (uses_written u ++ given_written g) (without_in_peers 2 potential refl)
+    (without (uses_written u) (given_written g) (without_in_uses u) (without_in_given g)))) none
 
 -- ---- how long they are
 
@@ -229,6 +281,8 @@ giving_most g key le = set_most 4 (given_flags g.an g.offset * 16) 0 52 (given_b
 key_most : (g : Given) (w : WrappedKey) → IsWrapped w → length (key_set g w) ≤ 59
 key_most g (Aes128 wrapped) is = giving_most g wrapped (omega (arith, is))
 key_most g (Aes256 wrapped) is = giving_most g (gcm_aes_256 ++ wrapped) (omega (arith, is))
+key_most g (Xpn128 wrapped) is = giving_most g (gcm_aes_xpn_128 ++ wrapped) (omega (arith, is))
+key_most g (Xpn256 wrapped) is = giving_most g (gcm_aes_xpn_256 ++ wrapped) (omega (arith, is))
 key_most g Other is = omega arith
 
 given_most : (g : Option Given) → IfSome g IsGiven → length (given_set g) ≤ 59
@@ -293,4 +347,5 @@ written_spells a check may is sixteen =
       potential = spells_potential a.live a.potential a.uses a.given is.potential;
       uses = spells_uses a.live a.potential a.uses a.given keys;
       given = spells_given a.live a.potential a.uses a.given is.given may.given;
+      highs = spells_highs a.live a.potential a.uses a.given a.highs may.highs;
     }

@@ -8,16 +8,17 @@ use Rattle.lan_base.specs.AssociationNumbers.{of_bits}
 use Rattle.lan_base.specs.declared.address.Mi.{Mi}
 use Rattle.lan_base.specs.declared.address.Sci.{Sci}
 use Rattle.mkpdu_codec.specs.declared.given.Given.{Given}
+use Rattle.mkpdu_codec.specs.declared.high_halves.HighHalves.{HighHalves}
 use Rattle.mkpdu_codec.specs.declared.key_use.KeyUse.{KeyUse}
 use Rattle.mkpdu_codec.specs.declared.key_use.Uses.{Uses}
 use Rattle.mkpdu_codec.specs.declared.offset.ConfidentialityOffset.{ConfidentialityOffset}
 use Rattle.mkpdu_codec.specs.declared.peer.Peer.{Peer}
 use Rattle.mkpdu_codec.specs.declared.wrapped_key.WrappedKey.{WrappedKey}
-use Rattle.mkpdu_codec.specs.declared.wrapped_key.WrappedKey.TheVariants.{Aes128, Aes256, Other}
+use Rattle.mkpdu_codec.specs.declared.wrapped_key.WrappedKey.TheVariants.{Aes128, Aes256, Xpn128, Xpn256, Other}
 use Rattle.mkpdu_codec.specs.Frames.{Set}
 use Rattle.mkpdu_codec.specs.Offsets.{offset_of_bits}
 use Rattle.mkpdu_codec.specs.Refusals.{front_length, is_basic_length}
-use Rattle.mkpdu_codec.specs.Sets.{missing, gcm_aes_256}
+use Rattle.mkpdu_codec.specs.Sets.{missing, gcm_aes_256, gcm_aes_xpn_128, gcm_aes_xpn_256}
 
 infixl 10 ◌>>=◌
 abbrev pub ◌>>=◌ : {A B : Type 0} → Option A → (A → Option B) → Option B
@@ -119,19 +120,25 @@ uses_in found = do
 
 -- ---- Distributed SAK
 
--- the wrapped key of a key for GCM-AES-256
-abbrev pub wide_in : List ℕ → Option (List ℕ)
-wide_in key =
-    if starts_with (λ a b. a == b) key gcm_aes_256 && (length key == 48) then Some (drop 8 key)
+-- the wrapped key of so many octets behind the identifier of its suite
+abbrev pub wrapped_in : List ℕ → ℕ → List ℕ → Option (List ℕ)
+wrapped_in suite count key =
+    if starts_with (λ a b. a == b) key suite && (length key == 8 + count) then Some (drop 8 key)
     else None
 
-abbrev pub wide_or_other : Option (List ℕ) → WrappedKey
-wide_or_other None = Other
-wide_or_other (Some wrapped) = Aes256 wrapped
+-- the key that was found for GCM-AES-256, for GCM-AES-XPN-128 or for GCM-AES-XPN-256
+abbrev pub of_suites : Option (List ℕ) → Option (List ℕ) → Option (List ℕ) → WrappedKey
+of_suites (Some wrapped) x y = Aes256 wrapped
+of_suites None (Some wrapped) y = Xpn128 wrapped
+of_suites None None (Some wrapped) = Xpn256 wrapped
+of_suites None None None = Other
 
 -- the key behind the key number
 abbrev pub key_in : List ℕ → WrappedKey
-key_in key = if length key == 24 then Aes128 key else wide_or_other (wide_in key)
+key_in key =
+    if length key == 24 then Aes128 key
+    else of_suites (wrapped_in gcm_aes_256 40 key) (wrapped_in gcm_aes_xpn_128 24 key)
+    (wrapped_in gcm_aes_xpn_256 40 key)
 
 unfoldable pub given_in : Option Set → Option Given
 given_in found = do
@@ -143,6 +150,15 @@ given_in found = do
     number = number.0;
     key = key_in number.1;
   })
+
+-- ---- the XPN parameter set
+
+unfoldable pub highs_in : Option Set → Option HighHalves
+highs_in found = do
+  s ← found
+  latest ← number_at s.body
+  old ← number_at latest.1
+  Some (record { latest = latest.0; old = old.0 })
 
 -- ---- the Basic Parameter Set
 

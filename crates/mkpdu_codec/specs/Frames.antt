@@ -1,14 +1,16 @@
 -- Which frames spell which announcement (IEEE Std 802.1X, clause 11): a grammar of whole frames.
-use Rattle.std.specs.Prelude.{◌≡◌, ◌≢◌, ◌≤◌, ◌<◌, ℕ, ◌+◌, ◌/◌, ◌%◌, ◌^◌, ◌==◌, if◌then◌else◌, ◌⊎◌, List, [], ◌∷◌, ◌++◌, length, slice_index, Option, Some, None, IfSome, All, count_by}
+use Rattle.std.specs.Prelude.{◌≡◌, ◌≢◌, ◌≤◌, ◌<◌, ℕ, ◌+◌, ◌/◌, ◌%◌, ◌^◌, ◌==◌, ◌&&◌, if◌then◌else◌, Bool, ⊤, ◌⊎◌, List, [], ◌∷◌, ◌++◌, length, slice_index, Option, Some, None, IfSome, All, count_by}
+use Rattle.std.specs.List.{find}
 use Rattle.byteorder.specs.Endian.{big_bytes}
 use Rattle.lan_base.specs.Ranges.{IsCkn}
 use Rattle.mkpdu_codec.specs.declared.announcement.Announcement.{Announcement}
 use Rattle.mkpdu_codec.specs.declared.given.Given.{Given}
+use Rattle.mkpdu_codec.specs.declared.high_halves.HighHalves.{HighHalves}
 use Rattle.mkpdu_codec.specs.declared.key_use.Uses.{Uses}
 use Rattle.mkpdu_codec.specs.declared.peer.Peer.{Peer}
 use Rattle.mkpdu_codec.specs.declared.wrapped_key.WrappedKey.{WrappedKey}
-use Rattle.mkpdu_codec.specs.declared.wrapped_key.WrappedKey.TheVariants.{Aes128, Aes256, Other}
-use Rattle.mkpdu_codec.specs.Sets.{live_peers, potential_peers, sak_use, distributed_sak, icv_indicator, check_length, bit, missing, header, basic_body, peers_body, uses_body, uses_flags, given_flags, given_body, gcm_aes_256, IsPeer, IsKey, IsGiven}
+use Rattle.mkpdu_codec.specs.declared.wrapped_key.WrappedKey.TheVariants.{Aes128, Aes256, Xpn128, Xpn256, Other}
+use Rattle.mkpdu_codec.specs.Sets.{live_peers, potential_peers, sak_use, distributed_sak, xpn_parameters, icv_indicator, check_length, bit, missing, header, basic_body, peers_body, uses_body, uses_flags, given_flags, given_body, gcm_aes_256, gcm_aes_xpn_128, gcm_aes_xpn_256, highs_body, IsPeer, IsKey, IsGiven, AreHighs}
 
 -- ---- a parameter set
 
@@ -99,16 +101,21 @@ SpellsUses s None = s.body ≡ []
 SpellsUses s (Some u) =
     (s.second ≡ uses_flags u) × (s.body ≡ uses_body u) × IsKey u.latest × IsKey u.old
 
--- a wrapped key for GCM-AES-256
-abbrev pub IsWide : List ℕ → List ℕ → Type 0
-IsWide key wrapped = (length wrapped ≡ 40) × (key ≡ gcm_aes_256 ++ wrapped)
+-- a wrapped key of so many octets, behind the identifier of its suite
+abbrev pub IsOfSuite : List ℕ → ℕ → List ℕ → List ℕ → Type 0
+IsOfSuite suite count key wrapped = (length wrapped ≡ count) × (key ≡ suite ++ wrapped)
 
 -- the key behind the key number: one of 24 octets is for GCM-AES-128, and any other that isn't one
--- for GCM-AES-256 is that of another suite
+-- for GCM-AES-256 or with extended packet numbers is that of another suite
 abbrev pub SpellsKey : List ℕ → WrappedKey → Type 0
 SpellsKey key (Aes128 wrapped) = (length wrapped ≡ 24) × (key ≡ wrapped)
-SpellsKey key (Aes256 wrapped) = IsWide key wrapped
-SpellsKey key Other = (length key ≢ 24) × ((wrapped : List ℕ) → IsWide key wrapped → ⊥)
+SpellsKey key (Aes256 wrapped) = IsOfSuite gcm_aes_256 40 key wrapped
+SpellsKey key (Xpn128 wrapped) = IsOfSuite gcm_aes_xpn_128 24 key wrapped
+SpellsKey key (Xpn256 wrapped) = IsOfSuite gcm_aes_xpn_256 40 key wrapped
+SpellsKey key Other =
+    (length key ≢ 24) × ((wrapped : List ℕ) → IsOfSuite gcm_aes_256 40 key wrapped → ⊥)
+    × ((wrapped : List ℕ) → IsOfSuite gcm_aes_xpn_128 24 key wrapped → ⊥)
+    × ((wrapped : List ℕ) → IsOfSuite gcm_aes_xpn_256 40 key wrapped → ⊥)
 
 -- a Distributed SAK with its association number, offset and key number, and the key of its suite
 pub record IsGiving (s : Set) (g : Given) : Type 0 where
@@ -122,6 +129,17 @@ pub record IsGiving (s : Set) (g : Given) : Type 0 where
 abbrev pub SpellsGiven : Set → Option Given → Type 0
 SpellsGiven s None = s.body ≡ []
 SpellsGiven s (Some g) = IsGiving s g
+
+-- the XPN parameter set has two high halves; one of another length says nothing
+abbrev pub has_highs : Set → Bool
+has_highs s = (s.kind == xpn_parameters) && (length s.body == 8)
+
+-- the first XPN parameter set that has them
+abbrev pub SpellsHighs : Option Set → Option HighHalves → Type 0
+SpellsHighs None None = ⊤
+SpellsHighs None (Some h) = ⊥
+SpellsHighs (Some s) None = ⊥
+SpellsHighs (Some s) (Some h) = (s.body ≡ highs_body h) × AreHighs h
 
 -- the Basic Parameter Set: its second octet is the priority, and its highest flag is that of the
 -- key server
@@ -150,6 +168,7 @@ pub record Spells (frame : List ℕ) (a : Announcement) (covered : ℕ) (check :
   pub potential : SpellsPeers (the potential_peers others) a.potential
   pub uses : SpellsUses (the sak_use others) a.uses
   pub given : SpellsGiven (the distributed_sak others) a.given
+  pub highs : SpellsHighs (find has_highs others) a.highs
 
 -- the values of an announcement are in the ranges of their types
 pub record IsOfItsTypes (a : Announcement) : Type 0 where
@@ -160,3 +179,4 @@ pub record IsOfItsTypes (a : Announcement) : Type 0 where
   pub potential : All IsPeer a.potential
   pub uses : IfSome a.uses (λ u. IsKey u.latest × IsKey u.old)
   pub given : IfSome a.given IsGiven
+  pub highs : IfSome a.highs AreHighs

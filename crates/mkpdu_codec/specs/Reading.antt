@@ -5,10 +5,10 @@ use Rattle.mkpdu_codec.specs.declared.announcement.Announcement.{Announcement}
 use Rattle.mkpdu_codec.specs.declared.refusal.Refusal.{Refusal}
 use Rattle.mkpdu_codec.specs.declared.refusal.Refusal.TheVariants.{NotMka, Short, Shape, Repeated, Agility}
 use Rattle.mkpdu_codec.specs.declared.spelled.Spelled.{Spelled}
-use Rattle.mkpdu_codec.specs.Frames.{Set}
+use Rattle.mkpdu_codec.specs.Frames.{Set, has_highs}
 use Rattle.mkpdu_codec.specs.Sets.{check_length}
 use Rattle.mkpdu_codec.specs.Refusals.{is_mka, is_long_enough, check_place, sets_of, is_indicator, is_length_of, is_known}
-use Rattle.mkpdu_codec.specs.Fields.{set_at, Basics, basic_at, peers_in, uses_in, given_in}
+use Rattle.mkpdu_codec.specs.Fields.{set_at, Basics, basic_at, peers_in, uses_in, given_in, highs_in}
 
 infixl 10 ◌>>=◌
 abbrev pub ◌>>=◌ : {A B : Type 0} → Result A Refusal → (A → Result B Refusal) → Result B Refusal
@@ -44,15 +44,20 @@ check_value frame =
 
 -- ---- the sets behind the Basic Parameter Set
 
--- the sets that are read, one of each type
+-- the sets that are read, one of each type, and the first that has high halves
 pub record Gathered : Type 0 where
   pub live : Option Set
   pub potential : Option Set
   pub uses : Option Set
   pub given : Option Set
+  pub highs : Option Set
 
 abbrev pub nothing : Gathered
-nothing = record { live = None; potential = None; uses = None; given = None }
+nothing = record { live = None; potential = None; uses = None; given = None; highs = None }
+
+-- a set of a type that may come twice: the first that has high halves is kept
+abbrev pub noted : Set → Gathered → Gathered
+noted s g = if has_highs s && not (is_some g.highs) then record g { highs = Some s } else g
 
 -- a set takes its place, which no set has taken
 unfoldable pub placed : Gathered → Set → Result Gathered Refusal
@@ -65,7 +70,7 @@ placed g s =
     else Ok (record g { uses = Some s })) else
     if s.kind == 4 then (if is_some g.given then Err (Repeated s.kind)
     else Ok (record g { given = Some s })) else
-    Ok g
+    Ok (noted s g)
 
 -- a set that has a length of its type
 abbrev pub with_length : ℕ → Option (Set × List ℕ) → Result (Set × List ℕ) Refusal
@@ -104,6 +109,7 @@ announcement_of source b g = record {
   potential = peers_in g.potential;
   uses = uses_in g.uses;
   given = given_in g.given;
+  highs = highs_in g.highs;
 }
 
 unfoldable pub reading : List ℕ → Result Spelled Refusal

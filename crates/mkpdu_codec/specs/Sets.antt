@@ -6,11 +6,12 @@ use Rattle.lan_base.specs.declared.association_number.AssociationNumber.{Associa
 use Rattle.lan_base.specs.AssociationNumbers.{number_of}
 use Rattle.mkpdu_codec.specs.declared.offset.ConfidentialityOffset.{ConfidentialityOffset}
 use Rattle.mkpdu_codec.specs.declared.given.Given.{Given}
+use Rattle.mkpdu_codec.specs.declared.high_halves.HighHalves.{HighHalves}
 use Rattle.mkpdu_codec.specs.declared.peer.Peer.{Peer}
 use Rattle.mkpdu_codec.specs.declared.key_use.KeyUse.{KeyUse}
 use Rattle.mkpdu_codec.specs.declared.key_use.Uses.{Uses}
 use Rattle.mkpdu_codec.specs.declared.wrapped_key.WrappedKey.{WrappedKey}
-use Rattle.mkpdu_codec.specs.declared.wrapped_key.WrappedKey.TheVariants.{Aes128, Aes256, Other}
+use Rattle.mkpdu_codec.specs.declared.wrapped_key.WrappedKey.TheVariants.{Aes128, Aes256, Xpn128, Xpn256, Other}
 use Rattle.mkpdu_codec.specs.Offsets.{offset_bits}
 
 -- the types of the sets behind the Basic Parameter Set
@@ -25,6 +26,9 @@ sak_use = 3
 
 abbrev pub distributed_sak : ℕ
 distributed_sak = 4
+
+abbrev pub xpn_parameters : ℕ
+xpn_parameters = 8
 
 abbrev pub icv_indicator : ℕ
 icv_indicator = 255
@@ -96,14 +100,25 @@ uses_flags u = use_flags u.latest * 16 + use_flags u.old
 abbrev pub given_flags : AssociationNumber → ConfidentialityOffset → ℕ
 given_flags an offset = number_of an * 4 + offset_bits offset
 
--- the identifier of the cipher suite GCM-AES-256
+-- the identifiers of the cipher suites GCM-AES-256, GCM-AES-XPN-128 and GCM-AES-XPN-256
 abbrev pub gcm_aes_256 : List ℕ
 gcm_aes_256 = 0x00 ∷ 0x80 ∷ 0xc2 ∷ 0x00 ∷ 0x01 ∷ 0x00 ∷ 0x00 ∷ 0x02 ∷ []
+
+abbrev pub gcm_aes_xpn_128 : List ℕ
+gcm_aes_xpn_128 = 0x00 ∷ 0x80 ∷ 0xc2 ∷ 0x00 ∷ 0x01 ∷ 0x00 ∷ 0x00 ∷ 0x03 ∷ []
+
+abbrev pub gcm_aes_xpn_256 : List ℕ
+gcm_aes_xpn_256 = 0x00 ∷ 0x80 ∷ 0xc2 ∷ 0x00 ∷ 0x01 ∷ 0x00 ∷ 0x00 ∷ 0x04 ∷ []
 
 -- the body of a Distributed SAK: key number, and the key of its suite. That of GCM-AES-128 is the
 -- wrapped key alone; that of another suite is the suite's identifier and the wrapped key
 abbrev pub given_body : ℕ → List ℕ → List ℕ
 given_body number key = big_bytes 4 number ++ key
+
+-- the body of the XPN parameter set: the high halves of the lowest acceptable packet numbers of the
+-- latest key and of the old one
+abbrev pub highs_body : HighHalves → List ℕ
+highs_body h = big_bytes 4 h.latest ++ big_bytes 4 h.old
 
 -- ---- the ranges of their fields
 
@@ -122,9 +137,16 @@ pub record IsKey (u : KeyUse) : Type 0 where
 abbrev pub IsWrapped : WrappedKey → Type 0
 IsWrapped (Aes128 wrapped) = length wrapped ≡ 24
 IsWrapped (Aes256 wrapped) = length wrapped ≡ 40
+IsWrapped (Xpn128 wrapped) = length wrapped ≡ 24
+IsWrapped (Xpn256 wrapped) = length wrapped ≡ 40
 IsWrapped Other = ⊤
 
 -- what a Distributed SAK gives
 pub record IsGiven (g : Given) : Type 0 where
   pub number : g.number < 2 ^ 32
   pub key : IsWrapped g.key
+
+-- the high halves of packet numbers of 64 bits
+pub record AreHighs (h : HighHalves) : Type 0 where
+  pub latest : h.latest < 2 ^ 32
+  pub old : h.old < 2 ^ 32

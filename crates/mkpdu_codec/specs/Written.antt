@@ -7,8 +7,8 @@ use Rattle.mkpdu_codec.specs.declared.given.Given.{Given}
 use Rattle.mkpdu_codec.specs.declared.key_use.Uses.{Uses}
 use Rattle.mkpdu_codec.specs.declared.peer.Peer.{Peer}
 use Rattle.mkpdu_codec.specs.declared.wrapped_key.WrappedKey.{WrappedKey}
-use Rattle.mkpdu_codec.specs.declared.wrapped_key.WrappedKey.TheVariants.{Aes128, Aes256, Other}
-use Rattle.mkpdu_codec.specs.Sets.{sak_use, distributed_sak, live_peers, potential_peers, check_length, bit, set, basic_body, peers_body, uses_body, uses_flags, given_body, given_flags, gcm_aes_256}
+use Rattle.mkpdu_codec.specs.declared.wrapped_key.WrappedKey.TheVariants.{Aes128, Aes256, Xpn128, Xpn256, Other}
+use Rattle.mkpdu_codec.specs.Sets.{sak_use, distributed_sak, live_peers, potential_peers, check_length, bit, set, basic_body, peers_body, uses_body, uses_flags, given_body, given_flags, gcm_aes_256, gcm_aes_xpn_128, gcm_aes_xpn_256}
 
 -- the group address that MKA frames are sent to
 abbrev pub group_address : List ℕ
@@ -36,10 +36,12 @@ uses_set (Some u) = set sak_use (uses_flags u) 0 (uses_body u)
 abbrev pub giving_set : Given → List ℕ → List ℕ
 giving_set g key = set distributed_sak (given_flags g.an g.offset * 16) 0 (given_body g.number key)
 
--- Distributed SAK with its key, of which those for GCM-AES-128 and GCM-AES-256 are written
+-- Distributed SAK with its key: one for another suite isn't written
 abbrev pub key_set : Given → WrappedKey → List ℕ
 key_set g (Aes128 wrapped) = giving_set g wrapped
 key_set g (Aes256 wrapped) = giving_set g (gcm_aes_256 ++ wrapped)
+key_set g (Xpn128 wrapped) = giving_set g (gcm_aes_xpn_128 ++ wrapped)
+key_set g (Xpn256 wrapped) = giving_set g (gcm_aes_xpn_256 ++ wrapped)
 key_set g Other = []
 
 -- Distributed SAK
@@ -47,7 +49,7 @@ abbrev pub given_set : Option Given → List ℕ
 given_set None = []
 given_set (Some g) = key_set g g.key
 
--- the sets of an announcement, in their order
+-- the sets of an announcement, in their order; high halves aren't written
 abbrev pub sets : Announcement → List ℕ
 sets a =
     basic_set a ++ (peers_set live_peers a.live
@@ -65,10 +67,12 @@ most_written peers = 190 + 16 * peers
 abbrev pub most_listed : ℕ
 most_listed = 80
 
--- a key for another cipher isn't written
+-- a key for another suite isn't written
 abbrev pub IsWritableKey : WrappedKey → Type 0
 IsWritableKey (Aes128 wrapped) = ⊤
 IsWritableKey (Aes256 wrapped) = ⊤
+IsWritableKey (Xpn128 wrapped) = ⊤
+IsWritableKey (Xpn256 wrapped) = ⊤
 IsWritableKey Other = ⊥
 
 -- what may be written
@@ -78,3 +82,4 @@ pub record IsWritable (a : Announcement) : Type 0 where
   pub live : length a.live ≤ most_listed
   pub potential : length a.potential ≤ most_listed
   pub given : IfSome a.given (λ g. IsWritableKey g.key)
+  pub highs : a.highs ≡ None

@@ -1,6 +1,7 @@
 //! What an MKA frame says.
 
 use crate::given::Given;
+use crate::high_halves::HighHalves;
 use crate::key_use::Uses;
 use crate::peer::Peers;
 use lan_base::{Mac, Mi, Octets, Sci};
@@ -25,4 +26,5 @@ pub struct Announcement {
     pub potential: Peers,
     pub uses: Option<Uses>,
     pub given: Option<Given>,
+    pub highs: Option<HighHalves>,
 }

@@ -2,23 +2,38 @@
 
 ghost use Rattle.std.specs.Prelude.{◌≡◌, ◌≤◌, length};
 ghost use Rattle.mkpdu_codec.specs.Refusals.{is_indicator, is_length_of};
-ghost use Rattle.mkpdu_codec.specs.Reading.{nothing, placed, shaped_at, gathered};
+ghost use Rattle.mkpdu_codec.specs.Reading.{nothing, noted, placed, shaped_at, gathered};
 ghost use Rattle.mkpdu_codec.specs.inside.Views.{set_of, Gives, gathered_of};
 
 use crate::distributed_sak::is_given_len;
+use crate::high_halves::has_highs;
 use crate::layout::{DISTRIBUTED_SAK, ICV_INDICATOR, LIVE_PEERS, POTENTIAL_PEERS, SAK_USE};
 use crate::peer_list::is_peers_len;
 use crate::refusal::Refusal;
 use crate::sak_use::is_uses_len;
 use crate::set::{ParameterSet, read_set};
 
-/// The sets that are read, at most one of each type.
+/// The sets that are read, at most one of each type, and the first that has high halves.
 #[derive(Clone, Copy)]
 pub struct Found<'a> {
     pub live: Option<ParameterSet<'a>>,
     pub potential: Option<ParameterSet<'a>>,
     pub uses: Option<ParameterSet<'a>>,
     pub given: Option<ParameterSet<'a>>,
+    pub highs: Option<ParameterSet<'a>>,
+}
+
+/// Keeps the first set that has high halves.
+fn note<'a>(found: Found<'a>, set: ParameterSet<'a>) -> Found<'a>
+    ensures { gathered_of result ≡ noted (set_of set.entry) (gathered_of found.entry) }
+{
+    if has_highs(set) && found.highs.is_none() {
+        return Found {
+            highs: Some(set),
+            ..found
+        };
+    }
+    found
 }
 
 /// Gives a set the place of its type, or refuses a second set of the type.
@@ -45,7 +60,7 @@ fn place<'a>(found: Found<'a>, set: ParameterSet<'a>) -> Result<Found<'a>, Refus
             ..found
         }),
         LIVE_PEERS..=DISTRIBUTED_SAK => Err(Refusal::Repeated { kind: set.kind }),
-        _ => Ok(found),
+        _ => Ok(note(found, set)),
     }
 }
 
@@ -96,6 +111,7 @@ pub fn read_found(end: usize, octets: &[u8]) -> Result<Found<'_>, Refusal>
         potential: None,
         uses: None,
         given: None,
+        highs: None,
     };
     let mut rest = octets;
     while !rest.is_empty() && !is_icv_indicator(rest) {

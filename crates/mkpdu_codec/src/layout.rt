@@ -21,5 +21,8 @@ pub const SAK_USE: u8 = 3;
 /// The type of Distributed SAK.
 pub const DISTRIBUTED_SAK: u8 = 4;
 
+/// The type of the set of parameters of extended packet numbers (XPN).
+pub const XPN_PARAMETERS: u8 = 8;
+
 /// The type of the ICV Indicator, whose body is the check value.
 pub const ICV_INDICATOR: u8 = 255;

@@ -8,6 +8,7 @@ mod distributed_sak;
 mod fields;
 mod found;
 mod given;
+mod high_halves;
 mod key_use;
 mod laws;
 mod layout;
@@ -25,6 +26,7 @@ mod writing;
 
 pub use announcement::Announcement;
 pub use given::Given;
+pub use high_halves::HighHalves;
 pub use key_use::{KeyUse, Uses};
 pub use laws::{
     law_covered_octets_decide, law_never_both, law_octets_behind_are_ignored, law_one_spelling,

@@ -13,6 +13,7 @@ use crate::announcement::Announcement;
 use crate::basic::{Basic, read_basic};
 use crate::distributed_sak::given_of;
 use crate::found::{Found, read_found};
+use crate::high_halves::highs_of;
 use crate::layout::{AGILITY, CHECK_LEN, HEADER_LEN};
 use crate::peer_list::peers_of;
 use crate::read_error::ReadError;
@@ -155,6 +156,7 @@ fn owned(alloc: Global, borrowed: Borrowed<'_>) -> Result<Spelled, AllocError>
         potential: peers_of(alloc, found.potential)?,
         uses: uses_of(found.uses),
         given: given_of(found.given),
+        highs: highs_of(found.highs),
     };
     Ok(Spelled {
         announcement,

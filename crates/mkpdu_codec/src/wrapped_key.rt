@@ -8,6 +8,10 @@ pub enum WrappedKey {
     Aes128([u8; 24]),
     /// A key for GCM-AES-256.
     Aes256([u8; 40]),
+    /// A key for GCM-AES-XPN-128.
+    Xpn128([u8; 24]),
+    /// A key for GCM-AES-XPN-256.
+    Xpn256([u8; 40]),
     /// A key for another cipher suite, whose octets are not read.
     Other,
 }

@@ -10,6 +10,7 @@ use crate::announcement::Announcement;
 use crate::basic::{basic_len, put_basic};
 use crate::distributed_sak::{given_len, put_given};
 use crate::given::is_given;
+use crate::high_halves::are_highs;
 use crate::key_use::are_uses;
 use crate::layout::{CHECK_LEN, LIVE_PEERS, POTENTIAL_PEERS};
 use crate::peer_list::{peers_len, put_peers};
@@ -90,6 +91,7 @@ fn is_of_its_types(announcement: &Announcement)
     if let Some(given) = announcement.given {
         is_given(given);
     }
+    are_highs(announcement.highs);
 }
 
 /// How many octets `write` appends.

@@ -12,10 +12,11 @@ use Rattle.mkpdu_codec.specs.declared.offset.ConfidentialityOffset.TheVariants a
 use Rattle.mkpdu_codec.specs.declared.given.Given.{Given}
 use Rattle.mkpdu_codec.specs.declared.key_use.KeyUse.{KeyUse}
 use Rattle.mkpdu_codec.specs.declared.wrapped_key.WrappedKey.{WrappedKey}
-use Rattle.mkpdu_codec.specs.declared.wrapped_key.WrappedKey.TheVariants.{Aes128, Aes256, Other}
+use Rattle.mkpdu_codec.specs.declared.wrapped_key.WrappedKey.TheVariants.{Aes128, Aes256, Xpn128, Xpn256, Other}
 use Rattle.sak_exchange.specs.declared.change.Cause.TheVariants.{All, Timeout, Flag}
 use Rattle.sak_exchange.specs.declared.change.Change.TheVariants.{Dropped, Installed}
 use Rattle.sak_exchange.specs.declared.change.Why.TheVariants.{NotListed, NotServer, Seen, Retiring, Suite, Offset, Wrap}
+use Rattle.sak_exchange.specs.declared.due.Rekey.{Rekey}
 use Rattle.sak_exchange.specs.declared.due.Seen as numbers
 use Rattle.sak_exchange.specs.declared.offer.Offer.{Offer}
 use Rattle.sak_exchange.specs.declared.report.Report.{Report}
@@ -39,6 +40,13 @@ id server number = record { server = mi server; number = number }
 -- the key of a server and a number, under an association number and an epoch
 abbrev key : ℕ → ℕ → AssociationNumber → ℕ → Key
 key server number an epoch = record { id = id server number; an = an; sak = S128 (replicate 16 number); conf = true; epoch = epoch }
+
+-- spent from number 100 on, and as a member's old key, too
+abbrev hundred : Rekey
+hundred = record { from = 100; as_old = false }
+
+abbrev hundred_as_old : Rekey
+hundred_as_old = record { from = 100; as_old = true }
 
 abbrev ticks : ℕ → List Keying → List Keying
 ticks zero h = h
@@ -77,7 +85,7 @@ shows next lowest = record { next = next; latest = lowest; old = 0 }
 abbrev before : List Keying
 before = ticked true ∷ ticked false ∷ ticked false ∷ []
 
-makes_the_first : makes before (silent 2 ∷ []) false (shows 0 1) 100 ≡ true
+makes_the_first : makes before (silent 2 ∷ []) false (shows 0 1) hundred ≡ true
 unfolding received latest old
 makes_the_first = refl
 
@@ -134,8 +142,8 @@ unfolding received transmitting
 held_then = (refl, refl)
 
 -- member 3 is not in the roster
-joins : (makes begun (with_latest 2 (use_of 1 true true 1) ∷ []) false (shows 1 1) 100 ≡ false)
-    × (makes begun (with_latest 2 (use_of 1 true true 1) ∷ silent 3 ∷ []) false (shows 1 1) 100 ≡ true)
+joins : (makes begun (with_latest 2 (use_of 1 true true 1) ∷ []) false (shows 1 1) hundred ≡ false)
+    × (makes begun (with_latest 2 (use_of 1 true true 1) ∷ silent 3 ∷ []) false (shows 1 1) hundred ≡ true)
     × (made_key 0 (mi 1) begun true (S128 (replicate 16 2)) ≡ key 1 2 An1 2)
 unfolding received latest old
 joins = (refl, refl, refl)
@@ -205,11 +213,17 @@ unfolding received latest
 due_as_one_is_left_out = (refl, refl)
 
 -- by the next number, by the own lowest acceptable one, or by that which a live member says
-due_as_it_is_spent : (is_latest_spent begun (with_latest 2 (use_of 1 true true 99) ∷ []) (shows 99 99) 100 ≡ false) × (is_latest_spent begun [] (shows 100 99) 100 ≡ true) × (is_latest_spent begun [] (shows 99 100) 100 ≡ true)
-    × (is_latest_spent begun (with_latest 2 (use_of 1 false false 100) ∷ []) (shows 99 99) 100 ≡ true) × (is_latest_spent begun (with_old 2 (use_of 1 true true 100) ∷ []) (shows 99 99) 100 ≡ false)
-    × (is_latest_spent first [] (shows 100 100) 100 ≡ false)
+due_as_it_is_spent : (is_latest_spent begun (with_latest 2 (use_of 1 true true 99) ∷ []) (shows 99 99) hundred ≡ false) × (is_latest_spent begun [] (shows 100 99) hundred ≡ true) × (is_latest_spent begun [] (shows 99 100) hundred ≡ true)
+    × (is_latest_spent begun (with_latest 2 (use_of 1 false false 100) ∷ []) (shows 99 99) hundred ≡ true) × (is_latest_spent begun (with_old 2 (use_of 1 true true 100) ∷ []) (shows 99 99) hundred ≡ false)
+    × (is_latest_spent first [] (shows 100 100) hundred ≡ false)
 unfolding received latest
 due_as_it_is_spent = (refl, refl, refl, refl, refl, refl)
+
+-- by what a live member says of it as its old key, where that counts
+due_as_old : (is_latest_spent begun (with_old 2 (use_of 1 true true 100) ∷ []) (shows 99 99) hundred_as_old ≡ true)
+    × (is_latest_spent begun (with_old 2 (use_of 1 true true 99) ∷ []) (shows 99 99) hundred_as_old ≡ false)
+unfolding received latest
+due_as_old = (refl, refl)
 
 -- the key began five ticks ago
 due_as_one_is_behind : (is_one_behind (ticks 54 begun) (silent 2 ∷ []) ≡ false) × (is_one_behind (ticks 55 begun) (silent 2 ∷ []) ≡ true) × (is_one_behind (ticks 55 begun) (with_old 2 (use_of 1 false true 1) ∷ []) ≡ false)
@@ -217,8 +231,8 @@ unfolding received latest
 due_as_one_is_behind = (refl, refl, refl)
 
 -- The key was made seven ticks ago: while a member is potential, none is made before the life time is over.
-rests_while_one_is_potential : (makes before (silent 2 ∷ []) true (shows 0 1) 100 ≡ true) × (makes (ticks 52 begun) (silent 2 ∷ silent 3 ∷ []) true (shows 1 1) 100 ≡ false)
-    × (makes (ticks 53 begun) (silent 2 ∷ silent 3 ∷ []) true (shows 1 1) 100 ≡ true)
+rests_while_one_is_potential : (makes before (silent 2 ∷ []) true (shows 0 1) hundred ≡ true) × (makes (ticks 52 begun) (silent 2 ∷ silent 3 ∷ []) true (shows 1 1) hundred ≡ false)
+    × (makes (ticks 53 begun) (silent 2 ∷ silent 3 ∷ []) true (shows 1 1) hundred ≡ true)
 unfolding received latest old
 rests_while_one_is_potential = (refl, refl, refl)
 
@@ -239,6 +253,11 @@ first_reasons : (taken 0 taken_first (offer (given 1 offsets.Octets30) false fal
     × (taken 0 taken_first (offer (giving 2 offsets.Octets30 Other) true true) None ≡ Err Suite) × (taken 0 taken_first (offer (given 2 offsets.Octets30) true true) None ≡ Err Offset) × (taken 0 taken_first (offer (given 2 offsets.Octets0) true true) None ≡ Err Wrap)
 unfolding received latest old
 first_reasons = (refl, refl, refl, refl, refl, refl, refl)
+
+-- a key of a suite with extended packet numbers is of another suite
+other_suites : (taken 0 taken_first (offer (giving 2 offsets.Octets0 (Xpn128 [])) true true) None ≡ Err Suite) × (taken 0 taken_first (offer (giving 2 offsets.Octets0 (Xpn256 [])) true true) None ≡ Err Suite)
+unfolding received latest old
+other_suites = (refl, refl)
 
 -- nor is a key taken that was dropped
 takes_no_dropped_key : taken 0 (ticked true ∷ ticked false ∷ taken_first) (offer (given 1 offsets.Octets0) true true) (Some (S128 (replicate 16 1))) ≡ Err (Seen 1)

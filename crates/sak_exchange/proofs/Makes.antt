@@ -10,6 +10,7 @@ use Rattle.lan_base.specs.AssociationNumbers.{same_an, behind}
 use Rattle.lan_base.specs.Timers.{life_time}
 use Rattle.aes_block.specs.declared.secret.Secret.{Secret}
 use Rattle.sak_exchange.specs.declared.due.Seen.{Seen}
+use Rattle.sak_exchange.specs.declared.due.Rekey.{Rekey}
 use Rattle.sak_exchange.specs.declared.latest.Latest.{Latest}
 use Rattle.sak_exchange.specs.declared.report.Report.{Report}
 use Rattle.sak_exchange.specs.declared.held_key.Key.{Key}
@@ -40,7 +41,7 @@ any-same f g (r ∷ rs) same = ap (λ (b : Bool). b || list_any f rs) (same r) �
 out-told : (base : ℕ) (own : Mi) (s : State) (h : List Keying) (live : List Report) → StandsFor base own false s h → is_one_left_out_now s live ≡ is_one_left_out h live
 out-told base own s h live t = any-same (λ r. not (is_in_roster_now s r.mi)) (λ r. not (is_in_roster h r.mi)) live (λ r. ap not (listed-told base own s h r.mi t))
 
-spent-told : (base : ℕ) (own : Mi) (s : State) (h : List Keying) (live : List Report) (seen : Seen) (limit : ℕ) → StandsFor base own false s h → is_latest_spent_now s live seen limit ≡ is_latest_spent h live seen limit
+spent-told : (base : ℕ) (own : Mi) (s : State) (h : List Keying) (live : List Report) (seen : Seen) (limit : Rekey) → StandsFor base own false s h → is_latest_spent_now s live seen limit ≡ is_latest_spent h live seen limit
 spent-told base own s h live seen limit t =
     latest-told base own false s h (λ l. l.held.begun && is_spent live seen limit l.held.key.id) (λ k. has_begun h k.epoch && is_spent live seen limit k.id) t (λ k. refl)
 
@@ -58,14 +59,14 @@ rested-told : (base : ℕ) (own : Mi) (s : State) (h : List Keying) (potential :
 rested-told base own s h potential t =
     ap (λ (o : Option ℕ). not potential || option_map_or (nat_le life_time) o true) t.since_made ∙ ap (λ (b : Bool). not potential || b) (rested-is (clock h) (last_made_at h))
 
-due-told : (base : ℕ) (own : Mi) (s : State) (h : List Keying) (live : List Report) (seen : Seen) (limit : ℕ) → StandsFor base own false s h → is_key_due_now s live seen limit ≡ is_key_due h live seen limit
+due-told : (base : ℕ) (own : Mi) (s : State) (h : List Keying) (live : List Report) (seen : Seen) (limit : Rekey) → StandsFor base own false s h → is_key_due_now s live seen limit ≡ is_key_due h live seen limit
 due-told base own s h live seen limit t =
     ap (λ (b : Bool). not b || (is_one_left_out_now s live || (is_latest_spent_now s live seen limit || is_one_behind_now s live))) (made-told base own s h t)
     ∙ ap (λ (b : Bool). is_none_of_own h || (b || (is_latest_spent_now s live seen limit || is_one_behind_now s live))) (out-told base own s h live t)
     ∙ ap (λ (b : Bool). is_none_of_own h || (is_one_left_out h live || (b || is_one_behind_now s live))) (spent-told base own s h live seen limit t)
     ∙ ap (λ (b : Bool). is_none_of_own h || (is_one_left_out h live || (is_latest_spent h live seen limit || b))) (behind-told base own s h live t)
 
-pub makes-told : (base : ℕ) (own : Mi) (s : State) (h : List Keying) (live : List Report) (potential : Bool) (seen : Seen) (limit : ℕ) → StandsFor base own false s h → makes_now s live potential seen limit ≡ makes h live potential seen limit
+pub makes-told : (base : ℕ) (own : Mi) (s : State) (h : List Keying) (live : List Report) (potential : Bool) (seen : Seen) (limit : Rekey) → StandsFor base own false s h → makes_now s live potential seen limit ≡ makes h live potential seen limit
 makes-told base own s h live potential seen limit t =
     ap (λ (b : Bool). b && (is_key_due_now s live seen limit && is_rested_now s potential)) (allows-told base own s h t)
     ∙ ap (λ (b : Bool). allows h && (b && is_rested_now s potential)) (due-told base own s h live seen limit t)

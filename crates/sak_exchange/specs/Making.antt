@@ -10,6 +10,7 @@ use Rattle.lan_base.specs.declared.key_id.KeyId.{KeyId}
 use Rattle.aes_block.specs.declared.secret.Secret.{Secret}
 use Rattle.sak_exchange.specs.declared.report.Report.{Report}
 use Rattle.sak_exchange.specs.declared.due.Seen.{Seen}
+use Rattle.sak_exchange.specs.declared.due.Rekey.{Rekey}
 use Rattle.lan_base.specs.Identifiers.{has}
 use Rattle.sak_exchange.specs.declared.held_key.Key.{Key}
 use Rattle.sak_exchange.specs.Histories.{Keying, clock, last_key, last_roster, last_made_at, install_count, made_count, begun_at, has_begun}
@@ -28,9 +29,9 @@ is_in_roster h m = is_latest h (λ k. lists (last_roster h) m)
 
 -- Whether a key is spent: the limit isn't above the next number of the association, the own lowest
 -- acceptable number under the key, or that which a live member says.
-abbrev pub is_spent : List Report → Seen → ℕ → KeyId → Bool
+abbrev pub is_spent : List Report → Seen → Rekey → KeyId → Bool
 is_spent live seen limit i =
-    nat_le limit seen.next || (nat_le limit seen.latest
+    nat_le limit.from seen.next || (nat_le limit.from seen.latest
     || list_any (λ r. reaches limit i r.uses) live)
 
 -- A key is due for one of four reasons. The first: no key is held, or this life did not make the
@@ -43,7 +44,7 @@ abbrev pub is_one_left_out : List Keying → List Report → Bool
 is_one_left_out h live = list_any (λ r. not (is_in_roster h r.mi)) live
 
 -- The third: the latest key has begun and is spent.
-abbrev pub is_latest_spent : List Keying → List Report → Seen → ℕ → Bool
+abbrev pub is_latest_spent : List Keying → List Report → Seen → Rekey → Bool
 is_latest_spent h live seen limit =
     is_latest h (λ k. has_begun h k.epoch && is_spent live seen limit k.id)
 
@@ -55,7 +56,7 @@ is_one_behind h live =
     && list_any (λ r. not (reports k.id r.uses)) live)
 
 -- whether a key is due
-abbrev pub is_key_due : List Keying → List Report → Seen → ℕ → Bool
+abbrev pub is_key_due : List Keying → List Report → Seen → Rekey → Bool
 is_key_due h live seen limit =
     is_none_of_own h || (is_one_left_out h live
     || (is_latest_spent h live seen limit || is_one_behind h live))
@@ -68,7 +69,7 @@ is_rested h potential =
 
 -- whether a station that is its own elected server, and has not begun a key in this tick, makes a
 -- key
-abbrev pub makes : List Keying → List Report → Bool → Seen → ℕ → Bool
+abbrev pub makes : List Keying → List Report → Bool → Seen → Rekey → Bool
 makes h live potential seen limit =
     allows h && (is_key_due h live seen limit && is_rested h potential)
 

@@ -3,6 +3,7 @@ use Rattle.std.specs.Prelude.{ℕ, nat_le, Bool, false, ◌==◌, ◌&&◌, ◌|
 use Rattle.lan_base.specs.declared.key_id.KeyId.{KeyId}
 use Rattle.mkpdu_codec.specs.declared.key_use.KeyUse.{KeyUse}
 use Rattle.mkpdu_codec.specs.declared.key_use.Uses.{Uses}
+use Rattle.sak_exchange.specs.declared.due.Rekey.{Rekey}
 use Rattle.lan_base.specs.Identifiers.{same_mi}
 
 -- whether a use names the key
@@ -27,8 +28,14 @@ reports i u = reports_latest i u || reports_old i u
 abbrev pub transmits : KeyId → Uses → Bool
 transmits i u = (names i u.latest && u.latest.tx) || (names i u.old && u.old.tx)
 
--- whether it says, of the key as its latest one, a lowest acceptable packet number that isn't below
--- the limit
-abbrev pub reaches : ℕ → KeyId → Option Uses → Bool
+-- whether a use names the key, with a lowest acceptable packet number that isn't below the limit
+abbrev pub reaches_as : ℕ → KeyId → KeyUse → Bool
+reaches_as limit i u = names i u && nat_le limit u.lowest
+
+-- Whether it says such a number of the key as its latest one; or as its old one, where that counts (this
+-- profile's own rule: a station that never sees its members' frames learns no number elsewhere, once its only
+-- key is their old one).
+abbrev pub reaches : Rekey → KeyId → Option Uses → Bool
 reaches limit i None = false
-reaches limit i (Some u) = names i u.latest && nat_le limit u.latest.lowest
+reaches limit i (Some u) =
+    reaches_as limit.from i u.latest || (limit.as_old && reaches_as limit.from i u.old)

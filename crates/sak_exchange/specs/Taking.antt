@@ -7,7 +7,7 @@ use Rattle.aes_block.specs.declared.secret.Secret.{Secret}
 use Rattle.mkpdu_codec.specs.declared.offset.ConfidentialityOffset.{ConfidentialityOffset}
 use Rattle.mkpdu_codec.specs.declared.offset.ConfidentialityOffset.TheVariants as offsets
 use Rattle.mkpdu_codec.specs.declared.wrapped_key.WrappedKey.{WrappedKey}
-use Rattle.mkpdu_codec.specs.declared.wrapped_key.WrappedKey.TheVariants.{Aes128, Aes256, Other}
+use Rattle.mkpdu_codec.specs.declared.wrapped_key.WrappedKey.TheVariants.{Aes128, Aes256, Xpn128, Xpn256, Other}
 use Rattle.sak_exchange.specs.declared.offer.Offer.{Offer}
 use Rattle.sak_exchange.specs.declared.change.Why.{Why}
 use Rattle.sak_exchange.specs.declared.change.Why.TheVariants.{NotListed, NotServer, Seen, Retiring, Suite, Offset, Wrap}
@@ -21,6 +21,8 @@ use Rattle.sak_exchange.specs.Making.{next_epoch}
 abbrev pub is_supported : WrappedKey → Bool
 is_supported (Aes128 octets) = true
 is_supported (Aes256 octets) = true
+is_supported (Xpn128 octets) = false
+is_supported (Xpn256 octets) = false
 is_supported Other = false
 
 -- whether frames under a key of this confidentiality offset are encrypted

@@ -6,7 +6,7 @@ use Rattle.aes_block.specs.declared.secret.Secret.{Secret}
 use Rattle.aes_block.specs.declared.secret.Secret.TheVariants.{S128, S256}
 use Rattle.key_wrap.specs.Wrap.{wrapped}
 use Rattle.mkpdu_codec.specs.declared.wrapped_key.WrappedKey.{WrappedKey}
-use Rattle.mkpdu_codec.specs.declared.wrapped_key.WrappedKey.TheVariants.{Aes128, Aes256, Other}
+use Rattle.mkpdu_codec.specs.declared.wrapped_key.WrappedKey.TheVariants.{Aes128, Aes256, Xpn128, Xpn256, Other}
 
 -- the numbers below one
 unfoldable pub below : ℕ → List ℕ
@@ -24,8 +24,10 @@ unfoldable pub unwrapped : ℕ → List ℕ → List ℕ → Option (List ℕ)
 unwrapped count kek octets =
     find (λ key. pointwise nat_eq (wrapped kek key) octets) (octet_lists count)
 
--- the SAK that is given, if what was given is a wrap of one
+-- the SAK that is given, if what was given is a wrap of one for a suite that the station has
 abbrev pub given_sak : List ℕ → WrappedKey → Option Secret
 given_sak kek (Aes128 octets) = option_map S128 (unwrapped 16 kek octets)
 given_sak kek (Aes256 octets) = option_map S256 (unwrapped 32 kek octets)
+given_sak kek (Xpn128 octets) = None
+given_sak kek (Xpn256 octets) = None
 given_sak kek Other = None

@@ -13,6 +13,15 @@ pub struct Seen {
     pub old: u32,
 }
 
+/// From where on a key is spent.
+#[derive(Clone, Copy)]
+pub struct Rekey {
+    /// The packet number from which on it is.
+    pub from: u32,
+    /// Whether it is so, too, where a live member says such a number of it as its old key.
+    pub as_old: bool,
+}
+
 /// What decides at a tick whether a station that is its own elected server makes a key.
 #[derive(Clone, Copy)]
 pub struct Due<'a> {
@@ -21,8 +30,7 @@ pub struct Due<'a> {
     /// Whether a member is potential.
     pub potential: bool,
     pub seen: Seen,
-    /// The packet number from which on a key is spent.
-    pub rekey: u32,
+    pub rekey: Rekey,
     /// Whether keys that are made give confidentiality.
     pub conf: bool,
 }

@@ -16,7 +16,7 @@ mod offer;
 mod report;
 
 pub use change::{Cause, Change, Changes, Why};
-pub use due::{Due, Seen};
+pub use due::{Due, Rekey, Seen};
 pub use held_key::{HeldKey, Key};
 pub use key_state::KeyState;
 pub use laws::{

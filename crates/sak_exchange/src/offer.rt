@@ -56,7 +56,10 @@ impl Offer {
     pub(crate) fn is_supported(&self) -> bool
         ensures { result ≡ is_supported self.now.given.key }
     {
-        !matches!(self.given.key, WrappedKey::Other)
+        match self.given.key {
+            WrappedKey::Aes128(_) | WrappedKey::Aes256(_) => true,
+            WrappedKey::Xpn128(_) | WrappedKey::Xpn256(_) | WrappedKey::Other => false,
+        }
     }
 
     /// The SAK, if what was given is a wrap of one.
@@ -66,7 +69,7 @@ impl Offer {
         match &self.given.key {
             WrappedKey::Aes128(octets) => unwrapped128(kek, octets).map(Secret::S128),
             WrappedKey::Aes256(octets) => unwrapped256(kek, octets).map(Secret::S256),
-            WrappedKey::Other => None,
+            WrappedKey::Xpn128(_) | WrappedKey::Xpn256(_) | WrappedKey::Other => None,
         }
     }
 }

@@ -1,8 +1,9 @@
 //! What live members say of keys.
 
 ghost use Rattle.std.specs.Prelude.{◌≡◌};
-ghost use Rattle.sak_exchange.specs.Reports.{names, reports_latest, reports, reaches, transmits};
+ghost use Rattle.sak_exchange.specs.Reports.{names, reports_latest, reports, reaches, reaches_as, transmits};
 
+use crate::due::Rekey;
 use lan_base::{KeyId, Mi};
 use mkpdu_codec::{KeyUse, Uses};
 
@@ -36,13 +37,16 @@ impl Report {
         }
     }
 
-    /// Whether it says, of the key as its latest one, a lowest acceptable packet number that isn't
-    /// below the limit.
-    pub(crate) fn reaches(&self, limit: u32, id: &KeyId) -> bool
+    /// Whether it says, of the key as its latest one, and as its old one where that counts, a lowest
+    /// acceptable packet number that isn't below the limit.
+    pub(crate) fn reaches(&self, limit: Rekey, id: &KeyId) -> bool
         ensures { result ≡ reaches limit id.now self.now.uses }
     {
         match &self.uses {
-            Some(uses) => names(&uses.latest, id) && limit <= uses.latest.lowest,
+            Some(uses) => {
+                reaches_as(&uses.latest, limit.from, id)
+                    || (limit.as_old && reaches_as(&uses.old, limit.from, id))
+            }
             None => false,
         }
     }
@@ -61,4 +65,11 @@ pub(crate) fn transmits(uses: &Uses, id: &KeyId) -> bool
     ensures { result ≡ transmits id.now uses.now }
 {
     (names(&uses.latest, id) && uses.latest.tx) || (names(&uses.old, id) && uses.old.tx)
+}
+
+/// Whether a use names the key, with a lowest acceptable packet number that isn't below the limit.
+fn reaches_as(key_use: &KeyUse, limit: u32, id: &KeyId) -> bool
+    ensures { result ≡ reaches_as limit id.now key_use.now }
+{
+    names(key_use, id) && limit <= key_use.lowest
 }

@@ -12,6 +12,7 @@
 //! | `kek CAK CKN BLOCK`, `ick CAK CKN BLOCK` | the ciphertext of a block under the group's key |
 //! | `protect KEY SCI AN PN MODE DESTINATION DATA` | the protected frame |
 //! | `open KEY FRAME` | its user data, `fails`, or why it is refused |
+//! | `openxpn KEY SSCI SALT NUMBER CLEAR FRAME` | the same under extended packet numbers, with so many octets in clear |
 //! | `mka FRAME` | what the frame spells, or why it is refused |
 //! | `rewrite FRAME` | what is written of what the frame spells, without a check value |
 //!
@@ -94,6 +95,7 @@ pub fn answer_line(alloc: Global, line: &str) -> Result<String, VectorFault> {
         Kind::Ick => derivations::encrypt_by_ick(alloc, words),
         Kind::Protect => frames::protect_data(alloc, words),
         Kind::Open => frames::open(alloc, words),
+        Kind::OpenXpn => frames::open_xpn(alloc, words),
         Kind::Mka => spellings::tell(alloc, words),
         Kind::Rewrite => spellings::rewrite(alloc, words),
     }

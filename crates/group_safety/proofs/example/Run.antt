@@ -70,6 +70,7 @@ says p m mn server live potential uses given = record {
   potential = potential;
   uses = uses;
   given = given;
+  highs = None;
 }
 
 abbrev pub a1 : Announcement

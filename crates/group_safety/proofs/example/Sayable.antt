@@ -1,17 +1,18 @@
 -- Announcements that a station of the group may say, decided.
-use Rattle.std.proofs.Common.{◌≡◌, ◌^◌, sym, subst, List, [], ◌∷◌, Bool, true, Option, Some, None}
+use Rattle.std.proofs.Common.{◌≡◌, ◌^◌, refl, sym, subst, List, [], ◌∷◌, Bool, true, Option, Some, None}
 use Rattle.std.proofs.Common.{length, arith}
-use Rattle.std.specs.Prelude.{◌==◌, ◌&&◌, nat_lt, nat_le, nat_eq, take, All, IfSome}
+use Rattle.std.specs.Prelude.{◌==◌, ◌&&◌, nat_lt, nat_le, nat_eq, is_none, take, All, IfSome}
 use Rattle.std.specs.List.{list_all}
 use Rattle.std.proofs.lemmas.Bool.{and_parts, eqb-true, ltb-true, leb-true}
 use Rattle.std.proofs.lemmas.List.Elements.{All-nil, All-cons}
 use lib.Pointwise.{pointwise, bytes_decides}
 use Rattle.lan_base.specs.Ranges.{IsCkn}
 use Rattle.mkpdu_codec.specs.declared.announcement.Announcement.{Announcement}
+use Rattle.mkpdu_codec.specs.declared.high_halves.HighHalves.{HighHalves}
 use Rattle.mkpdu_codec.specs.declared.key_use.KeyUse.{KeyUse}
 use Rattle.mkpdu_codec.specs.declared.key_use.Uses.{Uses}
 use Rattle.mkpdu_codec.specs.declared.peer.Peer.{Peer}
-use Rattle.mkpdu_codec.specs.Sets.{IsPeer, IsKey}
+use Rattle.mkpdu_codec.specs.Sets.{AreHighs, IsPeer, IsKey}
 use Rattle.mkpdu_codec.specs.Sets.{IsGiven}
 use Rattle.mkpdu_codec.specs.Written.{IsWritableKey}
 use Rattle.group_safety.specs.worked.Group.{settings}
@@ -35,7 +36,8 @@ is_good a =
     pointwise nat_eq a.source.0 (take 6 a.sci.0) && (pointwise nat_eq a.ckn settings.ckn
     && (nat_le (length a.live) 80 && (nat_le (length a.potential) 80
     && (are_uses a.uses && ((length a.sci.0 == 8) && ((length a.mi.0 == 12)
-    && (nat_lt a.mn (2 ^ 32) && (list_all is_peer a.live && list_all is_peer a.potential))))))))
+    && (nat_lt a.mn (2 ^ 32) && (list_all is_peer a.live
+    && (list_all is_peer a.potential && is_none a.highs)))))))))
 
 peers-are : (ps : List Peer) → list_all is_peer ps ≡ true → All IsPeer ps
 peers-are [] all = All-nil IsPeer
@@ -68,6 +70,8 @@ sayable a e given =
     let p7 = and_parts (length a.mi.0 == 12) _ p6.1 in
     let p8 = and_parts (nat_lt a.mn (2 ^ 32)) _ p7.1 in
     let p9 = and_parts (list_all is_peer a.live) _ p8.1 in
+    let p10 = and_parts (list_all is_peer a.potential) _ p9.1 in
+    let silent : a.highs ≡ None = none a.highs p10.1 in
     let named : a.ckn ≡ settings.ckn = (bytes_decides a.ckn settings.ckn).0 p2.0 in
     let ckn : IsCkn settings.ckn = (omega arith, omega arith) in
     record {
@@ -77,19 +81,25 @@ sayable a e given =
         live = leb-true (length a.live) 80 p3.0;
         potential = leb-true (length a.potential) 80 p4.0;
         given = given.0;
+        highs = silent;
       };
       typed = record {
         sci = eqb-true (length a.sci.0) 8 p6.0;
         mi = eqb-true (length a.mi.0) 12 p7.0;
         mn = ltb-true a.mn (2 ^ 32) p8.0;
         live = peers-are a.live p9.0;
-        potential = peers-are a.potential p9.1;
+        potential = peers-are a.potential p10.0;
         uses = used a.uses p5.0;
         given = given.1;
+        highs = subst (λ (o : Option HighHalves). IfSome o AreHighs) (sym silent) tt;
       };
       named = named;
     }
   where
+    none : (o : Option HighHalves) → is_none o ≡ true → o ≡ None
+    none None e = refl
+    none (Some h) e = absurd cc
+
     used : (o : Option Uses) → are_uses o ≡ true → IfSome o (λ u. IsKey u.latest × IsKey u.old)
     used None e = tt
     used (Some u) e =

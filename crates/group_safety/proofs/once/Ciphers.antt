@@ -27,7 +27,7 @@ use Rattle.mka_kdf.proofs.Public.{derived-16, derived-32}
 use Rattle.key_wrap.specs.Wrap.{wrapped, initial_value}
 use Rattle.key_wrap.proofs.Public.{IsOctets-steps, Permutes, one_key}
 use Rattle.mkpdu_codec.specs.declared.wrapped_key.WrappedKey.{WrappedKey}
-use Rattle.mkpdu_codec.specs.declared.wrapped_key.WrappedKey.TheVariants.{Aes128, Aes256, Other}
+use Rattle.mkpdu_codec.specs.declared.wrapped_key.WrappedKey.TheVariants.{Aes128, Aes256, Xpn128, Xpn256, Other}
 use Rattle.sak_exchange.specs.declared.held_key.Key.{Key}
 use Rattle.sak_exchange.specs.Unwrapping.{unwrapped, given_sak}
 use Rattle.sak_exchange.proofs.Public.{key-unwrapped, unwrapped-key}
@@ -302,4 +302,6 @@ unwrapped-secret kek (Aes256 octets) s e =
     let r = from_map S256 (unwrapped 32 kek octets) s e in
     let whole = (unwrapped-key 32 kek octets r.0 r.1).0 in
     subst IsSecret r.2 (whole.count, whole.octets)
+unwrapped-secret kek (Xpn128 octets) s e = absurd (none-some e)
+unwrapped-secret kek (Xpn256 octets) s e = absurd (none-some e)
 unwrapped-secret kek Other s e = absurd (none-some e)

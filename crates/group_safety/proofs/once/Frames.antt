@@ -215,6 +215,7 @@ frame-spells m p lowest s =
       potential = let l = length-map v.potential (peer_of m v) in let few = potential-few m p in
           omega (arith, l, few);
       given = if-some IsGift (λ g. IsWritableKey g.key) a.given (λ g h. h.writable) gift;
+      highs = refl;
     }
 
     typed : IsOfItsTypes a
@@ -226,6 +227,7 @@ frame-spells m p lowest s =
       potential = peers-are m p v.potential s.heard (potential-accepted m p);
       uses = uses;
       given = if-some IsGift IsGiven a.given (λ g h. h.typed) gift;
+      highs = tt;
     }
       where
         next : last_sent v.peers + 1 < 2 ^ 32

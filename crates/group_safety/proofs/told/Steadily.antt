@@ -312,6 +312,7 @@ nothing = record {
   potential = [];
   uses = None;
   given = None;
+  highs = None;
 }
 
 abbrev pub announced_in : Option Deed → Announcement

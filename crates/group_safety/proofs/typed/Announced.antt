@@ -18,7 +18,7 @@ use Rattle.lan_base.specs.Ranges.{IsCkn}
 use Rattle.mkpdu_codec.specs.declared.announcement.Announcement.{Announcement}
 use Rattle.mkpdu_codec.specs.declared.given.Given.{Given}
 use Rattle.mkpdu_codec.specs.declared.wrapped_key.WrappedKey.{WrappedKey}
-use Rattle.mkpdu_codec.specs.declared.wrapped_key.WrappedKey.TheVariants.{Aes128, Aes256, Other}
+use Rattle.mkpdu_codec.specs.declared.wrapped_key.WrappedKey.TheVariants.{Aes128, Aes256, Xpn128, Xpn256, Other}
 use Rattle.mkpdu_codec.specs.declared.key_use.KeyUse.{KeyUse}
 use Rattle.mkpdu_codec.specs.declared.key_use.Uses.{Uses}
 use Rattle.mkpdu_codec.specs.declared.offset.ConfidentialityOffset.{ConfidentialityOffset}
@@ -29,7 +29,7 @@ use Rattle.mkpdu_codec.specs.declared.refusal.Refusal.TheVariants.{NotMka, Short
 use Rattle.mkpdu_codec.specs.Frames.{Frame, Set, Spells, covered_octets, SpellsGiven}
 use Rattle.mkpdu_codec.specs.Offsets.{offset_bits}
 use Rattle.mkpdu_codec.specs.Refusals.{refused, refused_sets, or_else, is_mka, is_long_enough, is_basic, is_known, is_indicator, is_whole, is_length_of, is_single, front_kind, front_length, front_size, sets_of, others_of, check_place, body_length}
-use Rattle.mkpdu_codec.specs.Sets.{header, set, missing, bit, basic_body, agility, peer, peers_body, use_body, uses_body, use_flags, uses_flags, given_flags, given_body, gcm_aes_256, check_length, distributed_sak, sak_use}
+use Rattle.mkpdu_codec.specs.Sets.{header, set, missing, bit, basic_body, agility, peer, peers_body, use_body, uses_body, use_flags, uses_flags, given_flags, given_body, gcm_aes_256, gcm_aes_xpn_128, gcm_aes_xpn_256, check_length, distributed_sak, sak_use}
 use Rattle.mkpdu_codec.specs.Written.{written, sets, frame_header, group_address, basic_set, peers_set, uses_set, giving_set, key_set, given_set, most_listed}
 use Rattle.lan_core.specs.TypedFacts.{IsTypedRefusal}
 use Rattle.lan_core.specs.Types.{AreOctets, IsMi}
@@ -238,6 +238,8 @@ list-octets kind (p ∷ ps) small few all =
 abbrev pub IsWrap : WrappedKey → Type 0
 IsWrap (Aes128 wrapped) = (length wrapped ≡ 24) × AreOctets wrapped
 IsWrap (Aes256 wrapped) = (length wrapped ≡ 40) × AreOctets wrapped
+IsWrap (Xpn128 wrapped) = (length wrapped ≡ 24) × AreOctets wrapped
+IsWrap (Xpn256 wrapped) = (length wrapped ≡ 40) × AreOctets wrapped
 IsWrap Other = Unit {0}
 
 offset-small : (o : ConfidentialityOffset) → offset_bits o < 4
@@ -259,12 +261,26 @@ giving-octets g key few all =
 suite-octets : AreOctets gcm_aes_256
 suite-octets = All-from_AreOctets gcm_aes_256 (search arith)
 
+xpn-128-octets : AreOctets gcm_aes_xpn_128
+xpn-128-octets = All-from_AreOctets gcm_aes_xpn_128 (search arith)
+
+xpn-256-octets : AreOctets gcm_aes_xpn_256
+xpn-256-octets = All-from_AreOctets gcm_aes_xpn_256 (search arith)
+
 key-octets : (g : Given) (w : WrappedKey) → IsWrap w → AreOctets (key_set g w)
 key-octets g (Aes128 wrapped) is = giving-octets g wrapped (omega (arith, is.0)) is.1
 key-octets g (Aes256 wrapped) is =
     giving-octets g (gcm_aes_256 ++ wrapped)
     (omega (arith, length-append gcm_aes_256 wrapped, is.0))
     (All-append IsOctet gcm_aes_256 wrapped suite-octets is.1)
+key-octets g (Xpn128 wrapped) is =
+    giving-octets g (gcm_aes_xpn_128 ++ wrapped)
+    (omega (arith, length-append gcm_aes_xpn_128 wrapped, is.0))
+    (All-append IsOctet gcm_aes_xpn_128 wrapped xpn-128-octets is.1)
+key-octets g (Xpn256 wrapped) is =
+    giving-octets g (gcm_aes_xpn_256 ++ wrapped)
+    (omega (arith, length-append gcm_aes_xpn_256 wrapped, is.0))
+    (All-append IsOctet gcm_aes_xpn_256 wrapped xpn-256-octets is.1)
 key-octets g Other is = All-nil IsOctet
 
 -- what is said in its types

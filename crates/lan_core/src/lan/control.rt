@@ -31,6 +31,7 @@ use crate::settings::{Settings, group_of};
 use crate::stop::{StepError, Stop, Which};
 use lan_base::{Draws, Name, Sci};
 use mka_station::{Config, mi_of};
+use sak_exchange::Rekey;
 use std::alloc::{AllocError, Global};
 
 impl Lan {
@@ -158,7 +159,10 @@ fn first_seat(
     let config = Config {
         sci,
         priority,
-        rekey: settings.rekey,
+        rekey: Rekey {
+            from: settings.rekey,
+            as_old: false,
+        },
         conf: settings.conf,
         early_flag: settings.early_flag,
         group,

@@ -64,4 +64,5 @@ announced_by s c mn uses given =
       potential = map peer_in (potential_rows c.rows);
       uses = uses;
       given = given;
+      highs = None;
     }

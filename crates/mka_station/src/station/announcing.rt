@@ -112,6 +112,7 @@ impl Station {
             potential: potential_peers(self.alloc, &peer_view.rows)?,
             uses,
             given,
+            highs: None,
         })
     }
 

@@ -60,6 +60,7 @@ gathered_of f =
       potential = seen f.potential;
       uses = seen f.uses;
       given = seen f.given;
+      highs = seen f.highs;
     }
 
 abbrev pub spelled_of : Borrowed → Spelled

@@ -20,6 +20,7 @@ use Rattle.sak_exchange.specs.declared.change.Change.{Change}
 use Rattle.sak_exchange.specs.declared.change.Change.TheVariants.{Dropped, Began, Installed}
 use Rattle.sak_exchange.specs.declared.change.Why.{Why}
 use Rattle.sak_exchange.specs.declared.due.Seen.{Seen}
+use Rattle.sak_exchange.specs.declared.due.Rekey.{Rekey}
 use Rattle.sak_exchange.specs.declared.offer.Offer.{Offer}
 use Rattle.sak_exchange.specs.declared.report.Report.{Report}
 use Rattle.sak_exchange.specs.declared.held_key.Key.{Key}
@@ -128,7 +129,7 @@ is_latest_made_now s = is_latest_now s (λ l. is_some s.roster)
 abbrev pub is_one_left_out_now : State → List Report → Bool
 is_one_left_out_now s live = list_any (λ r. not (is_in_roster_now s r.mi)) live
 
-abbrev pub is_latest_spent_now : State → List Report → Seen → ℕ → Bool
+abbrev pub is_latest_spent_now : State → List Report → Seen → Rekey → Bool
 is_latest_spent_now s live seen limit =
     is_latest_now s (λ l. l.held.begun && is_spent live seen limit l.held.key.id)
 
@@ -137,7 +138,7 @@ is_one_behind_now s live =
     is_latest_now s (λ l. (l.held.begun && nat_le life_time l.since_begun)
     && list_any (λ r. not (reports l.held.key.id r.uses)) live)
 
-abbrev pub is_key_due_now : State → List Report → Seen → ℕ → Bool
+abbrev pub is_key_due_now : State → List Report → Seen → Rekey → Bool
 is_key_due_now s live seen limit =
     not (is_latest_made_now s) || (is_one_left_out_now s live
     || (is_latest_spent_now s live seen limit || is_one_behind_now s live))
@@ -147,7 +148,7 @@ abbrev pub is_rested_now : State → Bool → Bool
 is_rested_now s potential = not potential || option_map_or (nat_le life_time) s.since_made true
 
 -- whether a key is made
-abbrev pub makes_now : State → List Report → Bool → Seen → ℕ → Bool
+abbrev pub makes_now : State → List Report → Bool → Seen → Rekey → Bool
 makes_now s live potential seen limit =
     allows_now s && (is_key_due_now s live seen limit && is_rested_now s potential)
 

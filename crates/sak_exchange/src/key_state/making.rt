@@ -14,7 +14,7 @@ ghost use Rattle.sak_exchange.specs.inside.States.{is_latest_made_now, is_one_le
 
 use super::{KeyState, has};
 use crate::change::Changes;
-use crate::due::Due;
+use crate::due::{Due, Rekey};
 use crate::held_key::Key;
 use crate::report::Report;
 use aes_block::Secret;
@@ -248,13 +248,13 @@ fn one_is_silent(live: &[Report], id: &KeyId) -> bool
 fn is_spent(due: &Due, id: &KeyId) -> bool
     ensures { result ≡ is_spent due.now.live.now due.now.seen due.now.rekey id.now }
 {
-    u64::from(due.rekey) <= due.seen.next
-        || due.rekey <= due.seen.latest
+    u64::from(due.rekey.from) <= due.seen.next
+        || due.rekey.from <= due.seen.latest
         || one_reaches(due.live, due.rekey, id)
 }
 
 /// Whether one of them says a lowest acceptable number under the key that isn't below the limit.
-fn one_reaches(live: &[Report], limit: u32, id: &KeyId) -> bool
+fn one_reaches(live: &[Report], limit: Rekey, id: &KeyId) -> bool
     ensures { result ≡ list_any (λ r. reaches limit id.now r.uses) live.now }
 {
     live.iter().any(|report| report.reaches(limit, id))

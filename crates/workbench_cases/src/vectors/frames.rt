@@ -7,7 +7,9 @@ use crate::vectors::answers::{digits_of, fails, refused};
 use crate::vectors::fault::VectorFault;
 use crate::vectors::octets::{array_of, key_of, octets_of};
 use gcm_core::GcmKey;
-use gcm_frames::{PROTECTION_OCTETS, protect, tag_of, validate};
+use gcm_frames::{
+    PROTECTION_OCTETS, implied_tag_of, protect, tag_of, validate, validate_with, xpn_iv_of,
+};
 use lan_base::{AssociationNumber, Mac, Octets, Sci, UserFrame, is_user_data};
 use std::alloc::Global;
 
@@ -74,6 +76,29 @@ pub fn open(alloc: Global, words: &[&str]) -> Result<String, VectorFault> {
     match tag_of(&frame) {
         Ok(tag) => {
             if !validate(&key, &tag, frame.as_mut_slice()) {
+                return fails(alloc);
+            }
+            digits_of(alloc, &frame[tag.start..tag.start + tag.len])
+        }
+        Err(refusal) => refused(alloc, &refusal),
+    }
+}
+
+/// The user data of a frame that is protected under extended packet numbers (IEEE Std 802.1AE, clause
+/// 14), with so many octets of it in clear.
+pub fn open_xpn(alloc: Global, words: &[&str]) -> Result<String, VectorFault> {
+    let [key, ssci, salt, number, clear, frame] = words else {
+        return Err(VectorFault::Words);
+    };
+    let key = GcmKey::of(key_of(alloc, key)?);
+    let ssci = ssci.parse().map_err(|_| VectorFault::Number)?;
+    let number = number.parse().map_err(|_| VectorFault::Number)?;
+    let clear = clear.parse().map_err(|_| VectorFault::Number)?;
+    let iv = xpn_iv_of(array_of(alloc, salt)?, ssci, number);
+    let mut frame = octets_of(alloc, frame)?;
+    match implied_tag_of(&frame) {
+        Ok(tag) => {
+            if !validate_with(&key, iv, clear, &tag, frame.as_mut_slice()) {
                 return fails(alloc);
             }
             digits_of(alloc, &frame[tag.start..tag.start + tag.len])

@@ -18,6 +18,7 @@ pub enum Kind {
     Ick,
     Protect,
     Open,
+    OpenXpn,
     Mka,
     Rewrite,
 }
@@ -40,6 +41,7 @@ impl FromStr for Kind {
             "ick" => Kind::Ick,
             "protect" => Kind::Protect,
             "open" => Kind::Open,
+            "openxpn" => Kind::OpenXpn,
             "mka" => Kind::Mka,
             "rewrite" => Kind::Rewrite,
             _ => return Err(VectorFault::Kind),

@@ -56,7 +56,7 @@ fn written(alloc: Global, announcement: &Announcement) -> Result<String, VectorF
 const LISTED_MAX: usize = 80;
 
 /// Whether an announcement may be written: the source address is that of the sender, the peer lists
-/// are short enough, and a key is given for one of the two suites.
+/// are short enough, a key is given for a suite that is read, and there are no high halves.
 fn is_writable(announcement: &Announcement) -> bool
     ensures { IsTrue result → IsWritable announcement.now }
 {
@@ -71,6 +71,7 @@ fn is_writable(announcement: &Announcement) -> bool
                 ..
             })
         )
+        && announcement.highs.is_none()
 }
 
 /// What a frame spells, field by field, in one line.
@@ -172,6 +173,8 @@ impl fmt::Display for Key<'_> {
         match &given.key {
             WrappedKey::Aes128(wrapped) => write!(f, "128 bits {}", Digits(wrapped)),
             WrappedKey::Aes256(wrapped) => write!(f, "256 bits {}", Digits(wrapped)),
+            WrappedKey::Xpn128(wrapped) => write!(f, "xpn 128 bits {}", Digits(wrapped)),
+            WrappedKey::Xpn256(wrapped) => write!(f, "xpn 256 bits {}", Digits(wrapped)),
             WrappedKey::Other => f.write_str("of another suite"),
         }
     }

@@ -1,13 +1,9 @@
-use Rattle.std.proofs.Common.{rules}
-use Rattle.gcm_frames.proofs.Found.{by-tag-conf, by-tag-plain}
+use Rattle.std.proofs.Common.{◌∙◌, ap}
+use Rattle.gcm_frames.specs.Sealed.{is_tag_right_with}
+use Rattle.gcm_frames.proofs.Offsets.{opens}
 use Rattle.gcm_frames.proofs.validating.is_sealed.Goals as goal
 
-pub returns-then-tag : goal.returns-then-tag
-returns-then-tag c =
-    by-tag-conf c.args.key.now c.args.frame.now c.args.tag.now c.is_sealed.result _ _ _ _ c.if-tag.true c.iv_of-iv.ensures
-    (search rules) (search rules) c.check_of-check.ensures c.is_sealed.ensures
-
-pub returns-else-tag : goal.returns-else-tag
-returns-else-tag c =
-    by-tag-plain c.args.key.now c.args.frame.now c.args.tag.now c.is_sealed-else-tag.result _ _ _ c.if-tag.false c.iv_of-iv.ensures
-    (search rules) c.check_of-check.ensures c.is_sealed-else-tag.ensures
+pub returns : goal.returns
+returns c =
+    c.is_tag_right.ensures ∙ ap (λ v. is_tag_right_with c.args.key.now v c.args.tag.now c.args.frame.now) c.iv_of.ensures
+    ∙ opens c.args.key.now c.args.frame.now c.args.tag.now

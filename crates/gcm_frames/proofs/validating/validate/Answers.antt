@@ -1,39 +1,9 @@
-use Rattle.std.proofs.Common.{rules}
-use Rattle.gcm_core.proofs.Public.{IsBlock-counter}
-use Rattle.gcm_frames.proofs.Opening.{Encrypts}
-use Rattle.gcm_frames.proofs.Validated.{conf_plain, conf_unchanged, conf_exact, plain_plain, plain_exact}
+use Rattle.std.proofs.Common.{◌∙◌, ap, sym, List, ℕ}
+use Rattle.gcm_frames.specs.Sealed.{opened, opened_with}
 use Rattle.gcm_frames.proofs.validating.validate.Goals as goal
 
-pub returns-then-tag-clause-plain : goal.returns-then-tag-clause-plain
-returns-then-tag-clause-plain c =
-    conf_plain _ c.args.frame.now _ c.args.tag.now _ _ _ _ c.unseal.result
-    (record { iv_is = c.iv_of-iv.ensures; head_is = c.split_at_mut-head.ensures.front; rest_is = c.split_at_mut-head.ensures.back; check_is = c.check_of-check.ensures; conf_is = c.if-tag.true })
-    c.unseal.ensures.only
-
-pub returns-then-tag-clause-unchanged : goal.returns-then-tag-clause-unchanged
-returns-then-tag-clause-unchanged c =
-    conf_unchanged c.args.key.now c.args.frame.now _ c.args.tag.now _ _ _ _ c.unseal.result
-    (record { iv_is = c.iv_of-iv.ensures; head_is = c.split_at_mut-head.ensures.front; rest_is = c.split_at_mut-head.ensures.back; check_is = c.check_of-check.ensures; conf_is = c.if-tag.true })
-    c.unseal.ensures.unchanged
-
-pub returns-then-tag-clause-exact : goal.returns-then-tag-clause-exact
-returns-then-tag-clause-exact c =
-    let w : Encrypts c.args.key.now c.iv_of-iv.result = record {
-      counter = IsBlock-counter c.iv_of-iv.result 1 (search rules) (λ i. search rules);
-      blocks = λ text h. c.law_ciphertexts_are_blocks.ensures c.args.key.now text c.law_is_key.ensures h;
-    } in
-    conf_exact _ c.args.frame.now _ c.args.tag.now _ _ _ _ c.unseal.result w
-    (record { iv_is = c.iv_of-iv.ensures; head_is = c.split_at_mut-head.ensures.front; rest_is = c.split_at_mut-head.ensures.back; check_is = c.check_of-check.ensures; conf_is = c.if-tag.true })
-    c.requires.within c.unseal.ensures.opened c.unseal.ensures.refused
-
-pub returns-else-tag-clause-plain : goal.returns-else-tag-clause-plain
-returns-else-tag-clause-plain c = plain_plain _ c.args.frame.now c.args.tag.now c.unseal-else-tag.result c.if-tag.false
-
-pub returns-else-tag-clause-exact : goal.returns-else-tag-clause-exact
-returns-else-tag-clause-exact c =
-    let w : Encrypts c.args.key.now c.iv_of-iv.result = record {
-      counter = IsBlock-counter c.iv_of-iv.result 1 (search rules) (λ i. search rules);
-      blocks = λ text h. c.law_ciphertexts_are_blocks.ensures c.args.key.now text c.law_is_key.ensures h;
-    } in
-    plain_exact _ c.args.frame.now _ c.args.tag.now _ _ c.unseal-else-tag.result w c.if-tag.false c.iv_of-iv.ensures c.check_of-check.ensures
-    c.unseal-else-tag.ensures.opened c.unseal-else-tag.ensures.refused
+pub returns-clause-exact : goal.returns-clause-exact
+unfolding opened
+returns-clause-exact c =
+    ap (λ (v : List ℕ). opened_with c.args.key.now v c.args.tag.now c.args.frame.now) (sym c.iv_of.ensures)
+    ∙ c.open_in_place.ensures.exact

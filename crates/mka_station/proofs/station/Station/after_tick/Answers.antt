@@ -5,6 +5,7 @@ use Rattle.lan_base.specs.declared.address.Mi.{Mi}
 use Rattle.lan_base.specs.Identifiers.{same_mi}
 use Rattle.sak_exchange.specs.declared.report.Report.{Report}
 use Rattle.sak_exchange.specs.declared.due.Seen.{Seen}
+use Rattle.sak_exchange.specs.declared.due.Rekey.{Rekey}
 use Rattle.sak_exchange.specs.Histories.{Keying}
 use Rattle.sak_exchange.specs.Making.{makes, made_roster}
 use Rattle.sak_exchange.specs.Outcomes.{Effect}
@@ -54,7 +55,7 @@ returns c = λ m p any s comes is.
     let rekey = c.due-due.ensures.rekey ∙ ap (λ (x : Setup). x.rekey) setup_is in
     let same : makes h2 d.live.now d.potential d.seen d.rekey ≡ makes h2 found.reports (list_any (λ x. x.potential) found.rows) seen m.setup.rekey =
     ap (λ (x : List Report). makes h2 x d.potential d.seen d.rekey) c.due-due.ensures.live ∙ ap (λ (x : Bool). makes h2 found.reports x d.seen d.rekey) c.due-due.ensures.potential
-    ∙ ap (λ (x : Seen). makes h2 found.reports (list_any (λ x. x.potential) found.rows) x d.rekey) c.due-due.ensures.seen ∙ ap (λ (x : ℕ). makes h2 found.reports (list_any (λ x. x.potential) found.rows) seen x) rekey in
+    ∙ ap (λ (x : Seen). makes h2 found.reports (list_any (λ x. x.potential) found.rows) x d.rekey) c.due-due.ensures.seen ∙ ap (λ (x : Rekey). makes h2 found.reports (list_any (λ x. x.potential) found.rows) seen x) rekey in
     let due : IsDue sak (makes h2 d.live.now d.potential d.seen d.rekey) = subst (λ (b : Bool). IsDue sak b) (sym same) (is-due m p found seen any sak comes is) in
     let past = ap (λ (x : List Report). keys_made (Some (made_roster m.mi x)) (made_by m.base m.mi h2 d.conf sak) h2) c.due-due.ensures.live ∙ past-keys m p found seen any sak d.conf comes is conf in
     let k3 = subst (λ (g : List Keying). KeysStandFor m.base m.mi false c.make.new.keys g) past (c.in_ok-installed.ensures.stands m.base m.mi h2 k2 due) in
