@@ -1,11 +1,13 @@
 -- Definitions at worked values.
-use Rattle.std.proofs.Common.{◌≡◌, ℕ, arith, ◌*◌, ◌-◌, ◌^◌, [], ◌∷◌, ◌++◌, None, Some, true, false, replicate, refl}
+use Rattle.std.proofs.Common.{◌≡◌, ℕ, arith, ◌*◌, ◌-◌, ◌^◌, [], ◌∷◌, ◌++◌, None, Some, Ok, Err, true, false, replicate, refl}
 use Rattle.lan_base.specs.declared.address.Mi.{Mi}
 use Rattle.lan_base.specs.Identifiers.{IsAscending, has}
 use Rattle.lan_base.specs.Falling.{IsFalling}
 use Rattle.lan_base.specs.Counted.{counted, count_from}
 use Rattle.lan_base.specs.Faults.{one_more}
-use Rattle.lan_base.specs.InMemory.{failures}
+use Rattle.lan_base.specs.declared.source.Failed.{Failed}
+use Rattle.lan_base.specs.Given.{given, GaveOf}
+use Rattle.lan_base.specs.InMemory.{failures, GaveInMemory, GaveSteadily, SourceInMemory}
 use Rattle.lan_base.specs.Name.{is_name}
 use Rattle.lan_base.specs.Timers.{hello_time, life_time, retire_time}
 use Rattle.lan_base.specs.Told.{before, after}
@@ -52,6 +54,31 @@ told = refl
 
 untold : before (1 ∷ []) None ≡ None
 untold = refl
+
+-- a read of two octets into three, and a failed one
+two_given : given (Ok 2) (7 ∷ 8 ∷ 0 ∷ []) ≡ Some (7 ∷ 8 ∷ [])
+two_given = refl
+
+none_given : given (Err (record {})) (7 ∷ 8 ∷ 0 ∷ []) ≡ None
+none_given = refl
+
+-- of three octets a read gave two, and of none none
+two_gone : GaveSteadily (7 ∷ 8 ∷ 9 ∷ []) (Some (7 ∷ 8 ∷ [])) (9 ∷ [])
+two_gone = (refl, λ e. absurd cc)
+
+end_given : GaveSteadily [] (Some []) []
+end_given = (refl, λ e. refl)
+
+-- of a source whose second call fails the second read gave nothing
+abbrev after_calls : ℕ → SourceInMemory
+after_calls n = record { left = 9 ∷ []; piece = 4; fails = 2 ∷ []; calls = n }
+
+fault_given : GaveInMemory (after_calls 1) None (after_calls 2)
+fault_given = (refl, refl)
+
+-- a source that tells nothing counts its faults all the same
+fault_counted : GaveOf None 0 None None 1
+fault_counted = (refl, refl)
 
 -- three hello times are a life time, and half of that is the retire time
 three_hellos : life_time ≡ 3 * hello_time

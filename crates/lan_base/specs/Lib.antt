@@ -12,6 +12,7 @@ pub mod ChaChaDrawn
 pub mod Listed
 pub mod Told
 pub mod Faults
+pub mod Given
 pub mod InMemory
 pub mod Stream
 pub mod Room

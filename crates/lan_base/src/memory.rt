@@ -55,10 +55,13 @@ impl MemorySource {
 
 impl Source for MemorySource {
     ghost use Rattle.std.specs.Prelude.{Some};
+    ghost use Rattle.lan_base.specs.InMemory.{GaveInMemory};
 
     ghost left = { λ s. Some s.left };
 
     ghost faults = { λ s. failures s.fails s.calls };
+
+    ghost Gave = { GaveInMemory };
 
     fn read(&mut self, into: &mut [u8]) -> Result<usize, Failed>
         requires { 0 < length into.old }

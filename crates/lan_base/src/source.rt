@@ -2,6 +2,7 @@
 
 ghost use Rattle.std.specs.Prelude.{◌≡◌, ◌≢◌, ◌<◌, ◌≤◌, List, ℕ, Option, Err, length, take, IfOk, IfErr, OnOk, OnErr};
 ghost use Rattle.lan_base.specs.Faults.{Rose};
+ghost use Rattle.lan_base.specs.Given.{given};
 ghost use Rattle.lan_base.specs.Told.{before, IsUsedUp, Took};
 
 use crate::octets::Octets;
@@ -21,10 +22,14 @@ pub trait Source {
     /// How often the source has failed.
     ghost faults: { Self → ℕ };
 
+    /// What one read gives: a piece, which is empty only at the end, or none: a fault.
+    ghost Gave: { Self → Option (List ℕ) → Self → Type 0 };
+
     /// Moves octets into the front of a slice, and answers how many: 0 only at the end.
     fn read(&mut self, into: &mut [u8]) -> Result<usize, Failed>
         requires { 0 < length into.old }
         ensures fits { IfOk result (λ n. n ≤ length into.new) }
+        ensures gave { Gave self.old (given result into.new) self.new }
 
         // What was left is what was moved and then what is left now.
         ensures moved { IfOk result

@@ -36,10 +36,13 @@ impl SteadySource {
 
 impl Source for SteadySource {
     ghost use Rattle.std.specs.Prelude.{Some};
+    ghost use Rattle.lan_base.specs.InMemory.{GaveSteadily};
 
     ghost left = { λ s. Some s };
 
     ghost faults = { λ _. 0 };
+
+    ghost Gave = { GaveSteadily };
 
     fn read(&mut self, into: &mut [u8]) -> Result<usize, Failed>
         requires { 0 < length into.old }

@@ -69,9 +69,14 @@ impl<R: KnownRead + Drop> StdSource<R> {
 }
 
 impl<R: KnownRead + Drop> Source for StdSource<R> {
+    ghost use Rattle.lan_base.specs.Given.{GaveOf};
+
     ghost left = { λ s. R.remaining s.reader };
 
     ghost faults = { λ s. s.faults };
+
+    ghost Gave = { λ old piece new. GaveOf (R.remaining old.reader) old.faults piece
+        (R.remaining new.reader) new.faults };
 
     fn read(&mut self, into: &mut [u8]) -> Result<usize, Failed>
         requires { 0 < length into.old }

@@ -1,2 +1,4 @@
 pub mod Supplies
+pub mod Asking
+pub mod Asked
 pub mod Public

@@ -5,7 +5,9 @@ ghost use Rattle.lan_base.specs.Faults.{Rose};
 ghost use Rattle.lan_base.specs.declared.source.ReadEnd.TheVariants as ends;
 ghost use Rattle.text_lines.specs.Reading.{most_at_once};
 ghost use Rattle.octet_supply.specs.declared.supply.LineEnd.TheVariants as line_ends;
-ghost use Rattle.octet_supply.specs.Supplying.{Fills, FillsMore, GivesOne, Passes, Peeks, Stands, Takes, TakesLine, most_given};
+ghost use Rattle.octet_supply.specs.Asking.{AsksInTurn, Fewer};
+ghost use Rattle.octet_supply.specs.inside.Once.{AsksOnce, HasAsked, Holds, NextAsked};
+ghost use Rattle.octet_supply.specs.Supplying.{Fills, FillsMore, GivesOne, IsInLine, Passes, Peeks, Stands, Takes, TakesLine, most_given};
 
 use lan_base::{ReadEnd, Source};
 use std::alloc::Global;
@@ -89,6 +91,7 @@ impl Supply {
             → Stands limit text given self.old (S.left source.old)
             → Takes limit text given count into.old.items into.new.items self.new
             (S.left source.new) result }
+        ensures turns { AsksInTurn S.Gave (Fewer count) self.old.octets source.old source.new result }
         ensures more { OnOk result (self.new.given + length into.old.items
             ≡ self.old.given + length into.new.items) }
         ensures most { OnOk result (length into.new.items ≤ length into.old.items + count) }
@@ -110,6 +113,7 @@ impl Supply {
         ensures passes { (limit : ℕ) (text given : List ℕ)
             → Stands limit text given self.old (S.left source.old)
             → Passes limit text given count self.new (S.left source.new) result }
+        ensures turns { AsksInTurn S.Gave (Fewer count) self.old.octets source.old source.new result }
         ensures more { OnOk result (self.old.given ≤ self.new.given) }
         ensures failed { result ≡ Err ends.Failed → Rose (S.faults source.old) (S.faults source.new) }
         ensures counts { S.faults source.old ≤ S.faults source.new }
@@ -136,6 +140,8 @@ impl Supply {
             → Stands limit text given self.old (S.left source.old)
             → TakesLine limit text given most into.old.items into.new.items self.new
             (S.left source.new) result }
+        ensures turns { AsksInTurn S.Gave (IsInLine most) self.old.octets source.old source.new
+            result }
         ensures feed { result ≡ Ok line_ends.Feed → self.old.given < self.new.given }
         ensures most { most_given self.new ≡ most_given self.old }
         ensures failed { result ≡ Err ends.Failed → Rose (S.faults source.old) (S.faults source.new) }
@@ -164,6 +170,7 @@ impl Supply {
         ensures peeks { (limit : ℕ) (text given : List ℕ)
             → Stands limit text given self.old (S.left source.old)
             → Peeks limit text given count self.new (S.left source.new) result }
+        ensures turns { AsksInTurn S.Gave (Fewer count) self.old.octets source.old source.new result }
         ensures given { self.new.given ≡ self.old.given }
         ensures most { most_given self.new ≡ most_given self.old }
         ensures failed { result ≡ Err ends.Failed → Rose (S.faults source.old) (S.faults source.new) }
@@ -192,6 +199,7 @@ impl Supply {
         ensures gives { (limit : ℕ) (text given : List ℕ)
             → Stands limit text given self.old (S.left source.old)
             → GivesOne limit text given self.new (S.left source.new) result }
+        ensures asks { NextAsked S.Gave self.old self.new source.old source.new result }
         ensures more { IfOk result (λ next. IfSome next
             (λ _. self.new.given ≡ self.old.given + 1)) }
         ensures most { most_given self.new ≡ most_given self.old }
@@ -209,6 +217,7 @@ impl Supply {
         ensures fills { (limit : ℕ) (text given : List ℕ)
             → Stands limit text given self.old (S.left source.old)
             → Fills limit text given self.new (S.left source.new) result }
+        ensures asks { HasAsked S.Gave self.old self.new source.old source.new result }
         ensures some { IfOk result (λ has. has ≡ true → 1 ≤ length self.new.octets) }
         ensures given { self.new.given ≡ self.old.given }
         ensures most { most_given self.new ≡ most_given self.old }
@@ -231,6 +240,7 @@ impl Supply {
         ensures fills { (limit : ℕ) (text given : List ℕ)
             → Stands limit text given self.old (S.left source.old)
             → FillsMore limit text given self.old.octets self.new (S.left source.new) result }
+        ensures asks { AsksOnce S.Gave self.old self.new source.old source.new result }
         ensures some { IfOk result (λ has. has ≡ true
             → length self.old.octets < length self.new.octets) }
         ensures given { self.new.given ≡ self.old.given }
@@ -252,6 +262,7 @@ impl Supply {
             → Stands limit text given self.old (Some (octets.now ++ rest))
             → (octets.now ≡ [] → rest ≡ [])
             → FillsMore limit text given self.old.octets self.new (Some rest) result }
+        ensures holds { Holds self.old octets.now self.new result }
         ensures some { IfOk result (λ has. has ≡ true
             → length self.old.octets < length self.new.octets) }
         ensures given { self.new.given ≡ self.old.given }

@@ -29,7 +29,7 @@ pub spared : (halt : Halt) (why : Unwritten) → Spares halt → halt ≡ halt_o
 spared halt whys.Failed spares is = spares (inr is)
 spared halt whys.Memory spares is = spares (inl is)
 
-other : (halt : Halt) → (halt ≡ halts.Memory → ⊥) → (halt ≡ halts.WriteFault → ⊥) → Spares halt
+pub other : (halt : Halt) → (halt ≡ halts.Memory → ⊥) → (halt ≡ halts.WriteFault → ⊥) → Spares halt
 other halt memory broken (inl is) = memory is
 other halt memory broken (inr is) = broken is
 

@@ -9,6 +9,8 @@ use Rattle.text_lines.specs.Moments.{Moment as LinesMoment}
 use Rattle.text_lines.specs.declared.reading.End.{End}
 use Rattle.text_lines.specs.declared.reading.End.TheVariants as ends
 use Rattle.text_lines.specs.Reading.{Sourced, Takes, Runs, Reads}
+use Rattle.text_lines.specs.Turns.{InTurn}
+use Rattle.text_lines.proofs.Public.{Laws}
 use Rattle.trace_acts.specs.declared.halt.Halt.{Halt}
 use Rattle.trace_acts.specs.declared.halt.Halt.TheVariants as halts
 use Rattle.lan_base.specs.declared.sink.Unwritten.{Unwritten}
@@ -22,11 +24,13 @@ use Rattle.lan_schedule.specs.Reports.{Report, reports}
 use Rattle.lan_schedule.specs.Ends.{IsReached, WasTold, WasBroken as RecorderBroke}
 use Rattle.lan_schedule.specs.Sound.{IsTidy}
 use Rattle.lan_schedule.specs.Standing.{StandsFor, Closes}
-use Rattle.lan_schedule.proofs.Public.{way-begun, way-front, does-whole, does-whole-early}
+use Rattle.lan_schedule.proofs.Public.{way-begun, way-front, does-none, does-more, does-early, does-whole}
+use Rattle.lan_schedule.proofs.Public.{does-whole-early}
 use Rattle.replay.specs.Sinks.{Sunk, Wrote, BrokeOff, WroteSome, Fails}
 use Rattle.replay.specs.Shown.{summary_of}
 use Rattle.replay.specs.Runs.{most_input, WasPerformed, WasHalted, WasCut, EndsBy, IsTakenFrom}
 use Rattle.replay.specs.Runs.{IsReplayed, Shows}
+use Rattle.replay.specs.Turns.{PlaysInTurn}
 use Rattle.replay.specs.OneGroup.{one_group, whole, IsSettled}
 use Rattle.replay.specs.inside.Ended.{answered, ended}
 use Rattle.replay.specs.inside.Playing.{DidAct, DidLines}
@@ -36,6 +40,7 @@ use Rattle.replay.proofs.Written.{Grew, grew-wrote, grew-broke}
 use Rattle.replay.proofs.Telling.{Shows_on}
 use Rattle.replay.proofs.Ending.{Spares, spared, fails-rose, Plays, took, closed-err}
 use Rattle.replay.proofs.Ending.{replayed-err, transcribed}
+use Rattle.replay.proofs.Turning.{turned-ok, turned-closed, turned-err}
 
 -- what the laws of lan_schedule give
 pub record Given : Type 0 where
@@ -280,6 +285,13 @@ module _ {P K : Type 0} (given : Given) (Took : K → Report → K → Type 0)
       (never-broken at.world halt (closes at.world at.stands))
       (λ text d. does-whole (lines_of text) _ _ (Err halt) d closes)
 
+  laws : Laws (DidLines Took Broke of)
+  laws = record {
+    none = λ a. does-none _;
+    more = λ a b c xs ys r d e. does-more _ _ _ xs ys r d e;
+    early = λ a b xs ys halt d. does-early _ _ xs ys halt d;
+  }
+
   -- how a transcript ends, whichever way its lines were read, and whether it may end there
   pub ended-as : (left now : Sourced) (old new : LinesMoment P K)
       (read : Result (Unit {0}) (End Halt)) (may : Result (Unit {0}) Halt) → IsFresh old
@@ -295,6 +307,23 @@ module _ {P K : Type 0} (given : Given) (Took : K → Report → K → Type 0)
   ended-as left now old new (Err end) may fresh counts h closes =
       replayed-err one_group IsSettled texts IsFresh seen (DidAct Took Broke of) plays texts left now
       old new end fresh counts h
+
+  -- in which turns it was performed, whichever way its lines were read, and whether it may end there
+  pub turned-as : {S : Type 0} (Gave : S → Option (List ℕ) → S → Type 0) (s s_then : S)
+      (old new : LinesMoment P K) (read : Result (Unit {0}) (End Halt)) (may : Result (Unit {0}) Halt)
+      → IsFresh old → InTurn Gave (DidLines Took Broke of) most_input s s_then old new read
+      → ((w : World) → StandsFor w (of new) → Closes w may)
+      → PlaysInTurn Gave one_group IsSettled (record { at_end = texts; before = texts }) s s_then
+      (seen old) (seen new) (ended read may)
+  turned-as Gave s s_then old new (Ok done) (Ok may) fresh h closes =
+      turned-ok one_group IsSettled texts IsFresh seen (DidAct Took Broke of) plays Gave laws s s_then old new
+      fresh (λ text d. does-whole (lines_of text) _ _ (Ok tt) d closes) h
+  turned-as Gave s s_then old new (Ok done) (Err halt) fresh h closes =
+      turned-closed one_group IsSettled texts IsFresh seen (DidAct Took Broke of) plays Gave laws s s_then old
+      new fresh halt (λ text d. does-whole (lines_of text) _ _ (Err halt) d closes) h
+  turned-as Gave s s_then old new (Err end) may fresh h closes =
+      turned-err one_group IsSettled texts IsFresh seen (DidAct Took Broke of) plays Gave laws s s_then old new
+      fresh end h
 
 -- ---- a summary
 

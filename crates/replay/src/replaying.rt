@@ -1,10 +1,11 @@
 //! A whole trace is replayed.
 
-ghost use Rattle.std.specs.Prelude.{true, false};
+ghost use Rattle.std.specs.Prelude.{◌≡◌, true, false};
 ghost use Rattle.text_lines.specs.Reading.{sourced};
 ghost use Rattle.replay.specs.Sinks.{Fails, Wrote, sunk};
 ghost use Rattle.replay.specs.OneGroup.{IsSettled, one_group, shown_by};
 ghost use Rattle.replay.specs.Runs.{IsReplayed};
+ghost use Rattle.replay.specs.Turns.{PlaysInTurn};
 ghost use Rattle.replay.specs.inside.Summing.{SumsUp};
 ghost use Rattle.fact_tally.specs.Summary.{line_of};
 ghost use Rattle.std.specs.Prelude.{[], ◌∷◌, MatchResult};
@@ -40,9 +41,16 @@ pub fn replay<T: Threads + Sync, S: Source, K: Sink>(
     gate: &AnyGate,
     summary: bool,
 ) -> Result<(), End<Halt>>
-    ensures { IsReplayed one_group IsSettled (shown_by summary)
+    ensures replayed { IsReplayed one_group IsSettled (shown_by summary)
         (sourced (S.left source.old) (S.faults source.old))
         (sourced (S.left source.new) (S.faults source.new))
+        (sunk (K.held sink.old) (K.faults sink.old))
+        (sunk (K.held sink.new) (K.faults sink.new)) result }
+
+    // Whatever the source tells, what ends in what one read gives is performed and shown before the
+    // next one. A summary is written at the end.
+    ensures turned { summary ≡ false → PlaysInTurn S.Gave one_group IsSettled (shown_by false)
+        source.old source.new
         (sunk (K.held sink.old) (K.faults sink.old))
         (sunk (K.held sink.new) (K.faults sink.new)) result }
 {
@@ -61,9 +69,13 @@ fn transcribe<T: Threads + Sync, S: Source, K: Sink>(
     sink: &mut K,
     gate: &AnyGate,
 ) -> Result<(), End<Halt>>
-    ensures { IsReplayed one_group IsSettled (shown_by false)
+    ensures replayed { IsReplayed one_group IsSettled (shown_by false)
         (sourced (S.left source.old) (S.faults source.old))
         (sourced (S.left source.new) (S.faults source.new))
+        (sunk (K.held sink.old) (K.faults sink.old))
+        (sunk (K.held sink.new) (K.faults sink.new)) result }
+    ensures turned { PlaysInTurn S.Gave one_group IsSettled (shown_by false)
+        source.old source.new
         (sunk (K.held sink.old) (K.faults sink.old))
         (sunk (K.held sink.new) (K.faults sink.new)) result }
 {

@@ -12,7 +12,7 @@ either-few : (b : Bool) (line : List ℕ) (first later : List (List ℕ)) (n : �
 either-few true line first later n few more = omega (arith, few)
 either-few false line first later n few more = omega (arith, more)
 
-ended-few : (begun text : List ℕ) → length (ended begun text) ≤ length text
+pub ended-few : (begun text : List ℕ) → length (ended begun text) ≤ length text
 ended-few begun [] = omega arith
 ended-few begun (x ∷ text) =
     either-few (x == 10) (without_return begun) (ended [] text) (ended (begun ++ x ∷ []) text)
@@ -22,7 +22,7 @@ last-few : (octets : List ℕ) → length (last_line octets) ≤ 1
 last-few [] = omega arith
 last-few (x ∷ octets) = omega arith
 
-all-few : (text : List ℕ) → length (lines_of text) ≤ length text + 1
+pub all-few : (text : List ℕ) → length (lines_of text) ≤ length text + 1
 all-few text =
     let both = length-append (whole_lines text) (last_line (open_line [] text)) in
     let first = ended-few [] text in

@@ -1,5 +1,8 @@
 pub mod Handing
 pub mod Pieces
 pub mod Returning
+pub mod Turning
+pub mod Together
 pub mod Few
+pub mod Public
 mod Examples

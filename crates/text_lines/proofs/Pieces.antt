@@ -27,7 +27,7 @@ ended-by : (t : Bool) (carry d a b : List ℕ) → ended [] (a ++ b) ≡ ended [
 ended-by true carry d a b e f = ap (λ (l : List (List ℕ)). carry ∷ l) e
 ended-by false carry d a b e f = f
 
-ended-append : (carry a b : List ℕ) → ended carry (a ++ b) ≡ ended carry a
+pub ended-append : (carry a b : List ℕ) → ended carry (a ++ b) ≡ ended carry a
     ++ ended (open_line carry a) b
 ended-append carry [] b = refl
 ended-append carry (x ∷ a) b =
@@ -41,7 +41,7 @@ open_line-by : (t : Bool) (d a b : List ℕ) → open_line [] (a ++ b) ≡ open_
 open_line-by true d a b e f = e
 open_line-by false d a b e f = f
 
-open_line-append : (carry a b : List ℕ) → open_line carry (a ++ b) ≡ open_line (open_line carry a) b
+pub open_line-append : (carry a b : List ℕ) → open_line carry (a ++ b) ≡ open_line (open_line carry a) b
 open_line-append carry [] b = refl
 open_line-append carry (x ∷ a) b =
     open_line-by (x == 10) (carry ++ x ∷ []) a b (open_line-append [] a b)
@@ -65,7 +65,7 @@ take-both (suc n) (x ∷ a) b =
     ∙ ap (λ (k : ℕ). x ∷ (take n a ++ take k b)) (sym e)
 
 -- the lines that end in a front, and in what follows it within the limit
-whole-within : (limit : ℕ) (front piece : List ℕ) → length front ≤ limit
+pub whole-within : (limit : ℕ) (front piece : List ℕ) → length front ≤ limit
     → whole_lines front ++ ended (open_line [] front) (take (limit - length front) piece)
     ≡ whole_lines (take limit (front ++ piece))
 whole-within limit front piece few =

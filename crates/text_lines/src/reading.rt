@@ -5,6 +5,7 @@ ghost use Rattle.text_lines.specs.declared.reading.End.TheVariants as ends;
 ghost use Rattle.text_lines.specs.Ends.{end_of};
 ghost use Rattle.text_lines.specs.Moments.{moment};
 ghost use Rattle.text_lines.specs.Reading.{Reads, sourced};
+ghost use Rattle.text_lines.specs.Turns.{InTurn};
 ghost use Rattle.text_lines.specs.inside.Fed.{limited};
 
 use crate::feeding::{feed, last};
@@ -62,6 +63,8 @@ pub fn read_lines<S: Source, K, T: LineTaker<K>>(
     ensures reads { Reads T.Did limit
         (sourced (S.left source.old) (S.faults source.old))
         (sourced (S.left source.new) (S.faults source.new))
+        (moment taker.old outlet.old) (moment taker.new outlet.new) result }
+    ensures turns { InTurn S.Gave T.Did limit source.old source.new
         (moment taker.old outlet.old) (moment taker.new outlet.new) result }
     ensures counts { S.faults source.old ≤ S.faults source.new }
 {

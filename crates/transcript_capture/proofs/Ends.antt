@@ -10,12 +10,13 @@ use Rattle.lan_base.specs.Ranges.{most_input}
 use Rattle.transcript_reader.specs.Facts.{nothing}
 use Rattle.transcript_reader.specs.Reached.{Reached, WasReached}
 use Rattle.transcript_reader.specs.Transcripts.{EndsBy, EndsReading, IsFrontRead}
+use Rattle.transcript_reader.specs.Turns.{ReadsInTurn}
 use Rattle.text_lines.specs.declared.unfinished.Unfinished.{Unfinished}
 use Rattle.text_lines.specs.declared.unfinished.Unfinished.TheVariants as ends
-use Rattle.transcript_reader.proofs.Public.{answers-as, ends-as}
+use Rattle.transcript_reader.proofs.Public.{answers-as, ends-as, turned-as}
 use Rattle.transcript_capture.specs.declared.clock.Clock.{Clock}
 use Rattle.transcript_capture.specs.declared.fault.LineFault.{LineFault}
-use Rattle.transcript_capture.specs.Captures.{IsCaptured, IsWritten, WasWritten}
+use Rattle.transcript_capture.specs.Captures.{IsCaptured, IsUnbegun, IsWritten, WasWritten}
 use Rattle.transcript_capture.specs.Lines.{by_length}
 use Rattle.transcript_capture.specs.Packets.{packets}
 use Rattle.transcript_capture.specs.inside.Heading.{Heads}
@@ -44,6 +45,17 @@ head-ends text left held then end h = record { taken = inl refl; ends = go end h
     go ends.ReadFault h = absurd h
     go ends.WriteFault (n, less, is) = front-none (IsWritten held then (Err ends.WriteFault)) text (n, less, is)
     go ends.Memory (n, less, is) = front-none (IsWritten held then (Err ends.Memory)) text (n, is)
+
+pub head-unbegun : {S : Type 0} (s : S) (held then : Option (List ℕ)) (end : Unfinished LineFault)
+    → Heads held then (Err end) → IsUnbegun s s held then (Err end)
+head-unbegun s held then (ends.Refused line why) h = absurd h
+head-unbegun s held then ends.Limit h = absurd h
+head-unbegun s held then ends.ReadFault h = absurd h
+head-unbegun s held then ends.WriteFault (n, less, is) = (refl, (n, less, is))
+head-unbegun s held then ends.Memory (n, less, is) = (refl, (n, is))
+
+pub unbegun : {S : Type 0} (s : S) (held : Option (List ℕ)) → IsUnbegun s s held held (Err ends.Memory)
+unbegun s held = (refl, (0, after-none held))
 
 -- nothing was read and nothing written, for want of memory
 pub not-captured : (text : List ℕ) (left : Sourced) (held : Option (List ℕ))
@@ -107,3 +119,20 @@ module _ {K : Type 0} (held : K → Option (List ℕ)) (faults : K → ℕ) (fir
         (IsWritten before (held last.outlet) (Err why)) was-written (is-written why) text left now
         (Unit {0}) (Unit {0}) why e in
         record { taken = inr d.taken; ends = d.ends }
+
+  -- whatever the source tells
+  pub captured-in-turn : {S : Type 0} (Gave : S → Option (List ℕ) → S → Type 0) (s s_then : S)
+      (r : Result (Unit {0}) (Unfinished LineFault))
+      → ReadsInTurn Gave by_length (WasReached (recorded_all held) (Grew held faults) first last)
+      (Reached (recorded_all held) first last r) s s_then r
+      → ReadsInTurn Gave by_length (WasWritten before (held last.outlet)) (IsWritten before (held last.outlet) r)
+      s s_then r
+  captured-in-turn Gave s s_then (Ok done) t =
+      turned-as {X = Unit {0}} Gave by_length (WasReached (recorded_all held) (Grew held faults) first last)
+      (WasWritten before (held last.outlet)) (Reached {F = LineFault} (recorded_all held) first last (Ok done))
+      (IsWritten before (held last.outlet) (Ok done)) was-written (λ facts took. wrote facts took.1) s s_then
+      (Ok done) t
+  captured-in-turn Gave s s_then (Err why) t =
+      turned-as {X = Unit {0}} Gave by_length (WasReached (recorded_all held) (Grew held faults) first last)
+      (WasWritten before (held last.outlet)) (Reached (recorded_all held) first last (Err why))
+      (IsWritten before (held last.outlet) (Err why)) was-written (is-written why) s s_then (Err why) t

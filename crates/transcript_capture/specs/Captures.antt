@@ -1,10 +1,11 @@
 -- How capturing a transcript ends (this profile's own rule).
-use Rattle.std.specs.Prelude.{◌≡◌, ◌⊎◌, ℕ, ◌<◌, List, ◌++◌, length, take, Option, Result, Ok, Err}
+use Rattle.std.specs.Prelude.{◌≡◌, ◌⊎◌, ℕ, ◌<◌, List, [], ◌++◌, length, take, Option, Result, Ok, Err}
 use Rattle.lan_base.specs.Told.{after}
 use Rattle.text_lines.specs.Reading.{Sourced}
 use Rattle.lan_core.specs.declared.fact.Fact.{Fact}
 use Rattle.capture_file.specs.Records.{file_of}
 use Rattle.transcript_reader.specs.Transcripts.{EndsBy, IsTakenFrom}
+use Rattle.transcript_reader.specs.Turns.{ReadsInTurn}
 use Rattle.text_lines.specs.declared.unfinished.Unfinished.{Unfinished}
 use Rattle.text_lines.specs.declared.unfinished.Unfinished.TheVariants as ends
 use Rattle.transcript_capture.specs.declared.fault.LineFault.{LineFault}
@@ -42,3 +43,18 @@ pub record IsCaptured (text : List ℕ) (left now : Sourced) (held then : Option
     (result : Result (Unit {0}) (Unfinished LineFault)) : Type 0 where
   pub taken : (now ≡ left) ⊎ IsTakenFrom by_length (WasWritten held then) left now
   pub ends : EndsBy by_length (IsWritten held then result) text left now result
+
+-- nothing was read, since no more than a front of the file's head was written
+abbrev pub IsUnbegun : {S : Type 0} → S → S → Option (List ℕ) → Option (List ℕ)
+    → Result (Unit {0}) (Unfinished LineFault) → Type 0
+IsUnbegun s s_then held then (Err ends.WriteFault) =
+    (s_then ≡ s) × IsWritten held then (Err ends.WriteFault) []
+IsUnbegun s s_then held then (Err ends.Memory) = (s_then ≡ s) × IsWritten held then (Err ends.Memory) []
+IsUnbegun s s_then held then answer = ⊥
+
+-- A transcript was captured in turns, as far as anything of it was read, whatever the source tells: of the
+-- lines that end in what one read gives the file is written before the next one.
+abbrev pub CapturesInTurn : {S : Type 0} → (S → Option (List ℕ) → S → Type 0) → S → S → Option (List ℕ)
+    → Option (List ℕ) → Result (Unit {0}) (Unfinished LineFault) → Type 0
+CapturesInTurn Gave s s_then held then result = IsUnbegun s s_then held then result
+    ⊎ ReadsInTurn Gave by_length (WasWritten held then) (IsWritten held then result) s s_then result

@@ -4,7 +4,7 @@ ghost use Rattle.std.specs.Prelude.{◌≡◌, ◌≤◌, ℕ, List, Err, Some};
 ghost use Rattle.lan_base.specs.Faults.{Rose};
 ghost use Rattle.text_lines.specs.Reading.{sourced};
 ghost use Rattle.text_lines.specs.declared.unfinished.Unfinished.TheVariants as ends;
-ghost use Rattle.transcript_capture.specs.Captures.{IsCaptured};
+ghost use Rattle.transcript_capture.specs.Captures.{CapturesInTurn, IsCaptured};
 ghost use Rattle.transcript_capture.specs.inside.Heading.{Heads};
 
 use crate::fault::LineFault;
@@ -26,6 +26,8 @@ pub fn capture<S: Source, K: Sink>(
         (sourced (S.left source.old) (S.faults source.old))
         (sourced (S.left source.new) (S.faults source.new))
         (K.held sink.old) (K.held sink.new) result }
+    ensures turned { CapturesInTurn S.Gave source.old source.new (K.held sink.old)
+        (K.held sink.new) result }
     ensures read_fault { result ≡ Err ends.ReadFault
         → Rose (S.faults source.old) (S.faults source.new) }
     ensures write_fault { result ≡ Err ends.WriteFault

@@ -4,6 +4,7 @@ mod OneLine
 mod Course
 mod OneTaken
 mod Reaching
+mod Turning
 mod Instances
 pub mod Ticking
 mod Examples

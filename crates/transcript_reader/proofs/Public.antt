@@ -3,3 +3,4 @@
 pub use Rattle.transcript_reader.proofs.Course.{one-tells}
 pub use Rattle.transcript_reader.proofs.Ticking.{own-more, ticks-more}
 pub use Rattle.transcript_reader.proofs.Instances.{all-within, past-within, read-as, taken-as, by-end-as, ends-as, answers-as, unanswered, none-taken, not-begun}
+pub use Rattle.transcript_reader.proofs.Turning.{turned-as}

@@ -47,7 +47,7 @@ module _ {F P T K : Type 0} (rule : Rule F) (courses : Courses T K) (Grew Fails 
         → AreTaken rule (see.known old.taker) [] lines after told → AreTaken rule nothing [] lines after told
     from-nothing lines after told t = subst (λ (k : Known). AreTaken rule k [] lines after told) fresh t
 
-    read : (Holds : List Fact → Type 0) (lines : List (List ℕ)) (at : Moment P K)
+    pub read : (Holds : List Fact → Type 0) (lines : List (List ℕ)) (at : Moment P K)
         → ((told : List Fact) → courses.Took (beside see old) told (beside see at) → Holds told)
         → Did lines old at (Ok tt) → AreRead rule Holds lines
     read Holds lines at so d =
@@ -58,7 +58,7 @@ module _ {F P T K : Type 0} (rule : Rule F) (courses : Courses T K) (Grew Fails 
           holds = so t.told t.holds;
         }
 
-    front-read : (Was Holds : List Fact → Type 0) (lines : List (List ℕ)) → ((told : List Fact) → Was told → Holds told)
+    pub front-read : (Was Holds : List Fact → Type 0) (lines : List (List ℕ)) → ((told : List Fact) → Was told → Holds told)
         → TookPart rule Was (see.known old.taker) [] lines → IsFrontRead rule Holds lines
     front-read Was Holds lines so u = record {
       front = u.front;
@@ -72,7 +72,7 @@ module _ {F P T K : Type 0} (rule : Rule F) (courses : Courses T K) (Grew Fails 
       };
     }
 
-    refused : (Was Holds : List Fact → Type 0) (lines : List (List ℕ)) → length lines ≤ most_input + 1
+    pub refused : (Was Holds : List Fact → Type 0) (lines : List (List ℕ)) → length lines ≤ most_input + 1
         → ((told : List Fact) → Was told → Holds told) → (count : ℕ) (why : F)
         → TookTo rule Was (see.known old.taker) [] lines count why
         → IsRefused rule Holds lines (number_after count) why

@@ -7,6 +7,7 @@ ghost use Rattle.text_lines.specs.Reading.{sourced};
 ghost use Rattle.transcript_reader.specs.Facts.{nothing};
 ghost use Rattle.transcript_reader.specs.Transcripts.{EndsReading};
 ghost use Rattle.transcript_reader.specs.Reached.{Reached, WasReached};
+ghost use Rattle.transcript_reader.specs.Turns.{ReadsInTurn};
 ghost use Rattle.text_lines.specs.declared.unfinished.Unfinished.TheVariants as ends;
 ghost use Rattle.transcript_reader.specs.inside.Lines.{not_read};
 
@@ -114,6 +115,15 @@ pub fn read_transcript<S: Source, K, T: FactTaker<K>>(
         (Reached T.courses (moment reading.old.taker outlet.old) (moment reading.new.taker outlet.new) result)
         text (sourced (S.left source.old) (S.faults source.old))
         (sourced (S.left source.new) (S.faults source.new)) result }
+
+    // Whatever the source tells, the facts of the lines that end in what one read gives are taken
+    // before the next one.
+    ensures turned { reading.old.reader ≡ nothing → reading.old.count ≡ 0
+        → T.courses.Took (moment reading.old.taker outlet.old) [] (moment reading.old.taker outlet.old)
+        → ReadsInTurn S.Gave T.rule
+        (WasReached T.courses T.Grew (moment reading.old.taker outlet.old) (moment reading.new.taker outlet.new))
+        (Reached T.courses (moment reading.old.taker outlet.old) (moment reading.new.taker outlet.new) result)
+        source.old source.new result }
     ensures read_fault { result ≡ Err ends.ReadFault
         → Rose (S.faults source.old) (S.faults source.new) }
     ensures write_fault { result ≡ Err ends.WriteFault → T.Fails outlet.old outlet.new }

@@ -1,5 +1,5 @@
 -- How a trace of two groups is performed by a player, and ends.
-use Rattle.std.proofs.Common.{◌≡◌, ◌⊎◌, ℕ, ◌≤◌, List, ◌∷◌, ◌++◌, map, sym, ap, ◌∙◌, subst}
+use Rattle.std.proofs.Common.{◌≡◌, ◌⊎◌, ℕ, ◌≤◌, List, ◌∷◌, ◌++◌, Option, map, sym, ap, ◌∙◌, subst}
 use Rattle.std.proofs.Common.{refl, inl, inr}
 use Rattle.std.specs.Prelude.{Result, Ok, Err}
 use Rattle.lan_base.specs.Faults.{Rose}
@@ -7,6 +7,8 @@ use Rattle.text_lines.specs.declared.reading.End.{End}
 use Rattle.text_lines.specs.declared.reading.End.TheVariants as ends
 use Rattle.text_lines.specs.Moments.{Moment as LinesMoment}
 use Rattle.text_lines.specs.Reading.{Sourced, Takes, Reads}
+use Rattle.text_lines.specs.Turns.{InTurn}
+use Rattle.text_lines.proofs.Public.{Laws}
 use Rattle.trace_acts.specs.declared.halt.Halt.{Halt}
 use Rattle.trace_acts.specs.declared.halt.Halt.TheVariants as halts
 use Rattle.lan_base.specs.declared.sink.Unwritten.{Unwritten}
@@ -15,7 +17,9 @@ use Rattle.trace_acts.specs.Halts.{halt_of_unwritten}
 use Rattle.replay.specs.Sinks.{Sunk, Wrote, BrokeOff, WroteSome, Fails}
 use Rattle.replay.specs.inside.Ended.{ended}
 use Rattle.replay.specs.Runs.{most_input, WasPerformed, WasHalted, WasCut, IsReplayed}
+use Rattle.replay.specs.Turns.{PlaysInTurn}
 use Rattle.replay.proofs.Ending.{Spares, spared, fails-rose, Plays, replayed-err, transcribed}
+use Rattle.replay.proofs.Turning.{turned-ok, turned-err}
 use Rattle.replay.proofs.Written.{rose-earlier, wrote-counts, fails-broke}
 use Rattle.replay.proofs.Written.{Grew, grew-wrote, grew-broke}
 use Rattle.twin_schedule.specs.declared.commands.TwinReplay.{TwinReplay}
@@ -27,7 +31,7 @@ use Rattle.twin_schedule.specs.Ends.{Begins, IsReached, WasTold, WasBroken as Re
 use Rattle.twin_schedule.specs.Ends.{reported}
 use Rattle.twin_schedule.specs.Sound.{IsTidy}
 use Rattle.twin_schedule.specs.Standing.{StandsFor}
-use Rattle.twin_schedule.proofs.Public.{grows, each-append}
+use Rattle.twin_schedule.proofs.Public.{grows, each-append, does-none, does-more, does-early}
 use Rattle.replay.specs.twin.Written.{text_of, texts_of}
 use Rattle.replay.specs.twin.TwoGroups.{two_groups}
 use Rattle.replay.specs.twin.inside.Playing.{DidAct, DidLines}
@@ -230,6 +234,26 @@ module _ {P K : Type 0} (given : Given) (of : LinesMoment P K → TwinReplay) (s
   ended-as left now old new (Err end) fresh counts h =
       replayed-err two_groups IsTidy texts IsFresh seen (DidAct Took Broke of) plays texts left now
       old new end fresh counts h
+
+  laws : Laws (DidLines Took Broke of)
+  laws = record {
+    none = λ a. does-none _;
+    more = λ a b c xs ys r d e. does-more _ _ _ xs ys r d e;
+    early = λ a b xs ys halt d. does-early _ _ xs ys halt d;
+  }
+
+  -- in which turns it was performed
+  pub turned-as : {S : Type 0} (Gave : S → Option (List ℕ) → S → Type 0) (s s_then : S)
+      (old new : LinesMoment P K) (read : Result (Unit {0}) (End Halt)) → IsFresh old
+      → InTurn Gave (DidLines Took Broke of) most_input s s_then old new read
+      → PlaysInTurn Gave two_groups IsTidy (record { at_end = texts; before = texts }) s s_then
+      (seen old) (seen new) (ended read (Ok tt))
+  turned-as Gave s s_then old new (Ok done) fresh h =
+      turned-ok two_groups IsTidy texts IsFresh seen (DidAct Took Broke of) plays Gave laws s s_then old new
+      fresh (λ text d. d) h
+  turned-as Gave s s_then old new (Err end) fresh h =
+      turned-err two_groups IsTidy texts IsFresh seen (DidAct Took Broke of) plays Gave laws s s_then old new
+      fresh end h
 
   -- ---- no frame is forged
 

@@ -6,6 +6,7 @@ ghost use Rattle.text_lines.specs.declared.reading.End.TheVariants as ends;
 ghost use Rattle.trace_acts.specs.declared.halt.Halt.TheVariants as halts;
 ghost use Rattle.replay.specs.Sinks.{sunk};
 ghost use Rattle.replay.specs.Runs.{IsReplayed};
+ghost use Rattle.replay.specs.Turns.{PlaysInTurn};
 ghost use Rattle.twin_schedule.specs.Sound.{IsTidy};
 ghost use Rattle.replay.specs.twin.TwoGroups.{transcript, two_groups};
 
@@ -32,6 +33,12 @@ pub fn replay_two<S: Source, K: Sink>(
     ensures replayed { IsReplayed two_groups IsTidy transcript
         (sourced (S.left source.old) (S.faults source.old))
         (sourced (S.left source.new) (S.faults source.new))
+        (sunk (K.held sink.old) (K.faults sink.old))
+        (sunk (K.held sink.new) (K.faults sink.new)) result }
+
+    // Whatever the source tells, what ends in what one read gives is performed and shown before the
+    // next one.
+    ensures turned { PlaysInTurn S.Gave two_groups IsTidy transcript source.old source.new
         (sunk (K.held sink.old) (K.faults sink.old))
         (sunk (K.held sink.new) (K.faults sink.new)) result }
     ensures unforged { (line : ℕ) → result ≡ Err (ends.Refused (halts.Forged line)) → ⊥ }

@@ -1,6 +1,7 @@
 use Rattle.std.proofs.Common.{◌≤◌, ◌-◌}
 use Rattle.text_lines.specs.Moments.{moment}
 use Rattle.text_lines.proofs.Pieces.{HasRead}
+use Rattle.text_lines.proofs.Turning.{Turned}
 use Rattle.text_lines.proofs.reading.read_lines.Given as goal
 
 abbrev pub invariant-loop-count : goal.invariant-loop-count
@@ -12,6 +13,8 @@ invariant-loop-count g l =
       counts : s.faults l.fn.source ≤ s.faults l.source;
       read : HasRead t.Did (s.left l.fn.source) l.total (moment l.fn.taker l.fn.outlet)
           (s.left l.source) l.begun.items (moment l.taker l.outlet);
+      turned : Turned s.Gave t.Did l.fn.source l.source l.total l.begun.items
+          (moment l.fn.taker l.fn.outlet) (moment l.taker l.outlet);
     }
 
 abbrev pub decreases-loop-count : goal.decreases-loop-count

@@ -1,5 +1,7 @@
 use Rattle.std.proofs.Common.{◌≡◌, ◌+◌, ◌≤◌, ℕ, List, length}
+use Rattle.octet_supply.specs.Asking.{Fewer}
 use Rattle.octet_supply.specs.Supplying.{Stands}
+use Rattle.octet_supply.proofs.Asking.{Had}
 use Rattle.octet_supply.proofs.Supplies.{HasTaken}
 use Rattle.octet_supply.proofs.supply.Supply.take.Given as goal
 
@@ -10,6 +12,8 @@ invariant-loop-wanted g l =
     record {
       taken : (limit : ℕ) (text given : List ℕ) → Stands limit text given l.fn.self (left l.fn.source)
           → HasTaken limit text given l.fn.count l.wanted l.fn.into.items l.into.items l.self (left l.source);
+      turned : (out : List ℕ) × (length out + l.wanted ≡ l.fn.count)
+          × Had g.S.Source.Gave (Fewer l.fn.count) l.fn.self.octets l.fn.source out l.self l.source;
       more : l.self.given + length l.fn.into.items ≡ l.fn.self.given + length l.into.items;
       most : length l.into.items + l.wanted ≤ length l.fn.into.items + l.fn.count;
       counts : faults l.fn.source ≤ faults l.source;
