@@ -1,0 +1,6 @@
+pub mod Answering
+pub mod Faults
+pub mod InForm
+pub mod Plain
+pub mod Shared
+mod Examples

@@ -1,0 +1,4 @@
+pub mod Forms
+pub mod Reading
+pub mod InForm
+pub mod Live
