@@ -62,6 +62,7 @@ announcement = record {
   potential = [];
   uses = None;
   given = None;
+  highs = None;
 }
 
 abbrev mkpdu : ℕ → RightMkpdu

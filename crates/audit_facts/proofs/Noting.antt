@@ -10,11 +10,11 @@ use Rattle.rollover_notes.specs.Events.{Event}
 use Rattle.audit_facts.specs.Noted.{Noted, events, fresh_frames, given_in, spoke_in, spoken_by, spoken_of}
 use Rattle.audit_facts.specs.Standing.{Holds, Told, ToldStandFor}
 
-pub heard : (h : List Noted) (nanos : ℕ) (said : Option Announcement) (kept : Told)
+pub heard : (h : List Noted) (nanos : ℕ) (said : Option Announcement) (unknown : Option (List ℕ)) (kept : Told)
     → (mkpdu : RightMkpdu) (novelty : MkpduNovelty) (handed : Option Handed)
     → Holds (fresh_frames h) (spoken_by mkpdu nanos said ++ spoken_of h)
     (spoke_in mkpdu novelty nanos said ++ (given_in mkpdu.group handed ++ events h)) kept
-    → ToldStandFor (record { finding = findings.RightMkpdu mkpdu novelty handed; nanos = nanos; said = said } ∷ h) kept
-heard h nanos said kept mkpdu novelty handed holds =
+    → ToldStandFor (record { finding = findings.RightMkpdu mkpdu novelty handed; nanos = nanos; said = said; unknown = unknown } ∷ h) kept
+heard h nanos said unknown kept mkpdu novelty handed holds =
     subst (λ (es : List Event). Holds (fresh_frames h) (spoken_by mkpdu nanos said ++ spoken_of h) es kept)
     (sym (append_assoc (spoke_in mkpdu novelty nanos said) (given_in mkpdu.group handed) (events h))) holds

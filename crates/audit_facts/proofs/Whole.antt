@@ -6,7 +6,7 @@ use Rattle.audit_facts.specs.Noted.{Noted}
 use Rattle.audit_facts.specs.Standing.{KeptFacts, StandsFor}
 
 abbrev pub both_of : Inside → KeptFacts
-both_of f = record { told = f.told; marks = f.marks }
+both_of f = record { told = f.told; marks = f.marks; unknown = f.unknown }
 
 pub whole : (h : List Noted) (parts : Inside) (seen : KeptFacts) → both_of parts ≡ seen → StandsFor h seen
     → StandsFor h (both_of parts)

@@ -1,6 +1,6 @@
 -- Packets of a capture, newest first, as far as they tell of changes of key, of members, and of who was
 -- ready for a key, and as far as a picture marks them.
-use Rattle.std.specs.Prelude.{⊤, ◌≡◌, ℕ, true, if◌then◌else◌, List, [], ◌∷◌, ◌++◌, flat_map, Option, Some, None}
+use Rattle.std.specs.Prelude.{⊤, ◌≡◌, ℕ, true, if◌then◌else◌, List, [], ◌∷◌, ◌++◌, flat_map, map, Option, Some, None}
 use Rattle.audit_report.specs.declared.finding.Finding.{Finding}
 use Rattle.audit_report.specs.declared.finding.Finding.TheVariants as findings
 use Rattle.audit_report.specs.declared.finding.Handed.{Handed}
@@ -23,11 +23,12 @@ use Rattle.use_notes.specs.declared.novelty.Novelty.{Novelty}
 use Rattle.use_notes.specs.declared.novelty.Novelty.TheVariants.{Reused}
 
 -- of a packet: what it is behind the ones before it, its time in nanoseconds, and what it says, if it is
--- a right MKPDU
+-- a right MKPDU; of an MKPDU of a name that no group has, that name
 pub record Noted : Type 0 where
   pub finding : Finding
   pub nanos : ℕ
   pub said : Option Announcement
+  pub unknown : Option (List ℕ)
 
 abbrev pub said_in : Mka → Option Announcement
 said_in (mkas.Right group s) = Some s.announcement
@@ -37,9 +38,23 @@ abbrev pub said_by : Kind → Option Announcement
 said_by (kinds.Mka mka) = said_in mka
 said_by _ = None
 
+abbrev pub unknown_in : Mka → Option (List ℕ)
+unknown_in (mkas.Unknown ckn sci gives) = Some ckn
+unknown_in _ = None
+
+abbrev pub unknown_by : Kind → Option (List ℕ)
+unknown_by (kinds.Mka mka) = unknown_in mka
+unknown_by _ = None
+
 -- a packet of this kind
 abbrev pub noted_of : Finding → ℕ → Kind → Noted
-noted_of finding nanos kind = record { finding = finding; nanos = nanos; said = said_by kind }
+noted_of finding nanos kind =
+    record { finding = finding; nanos = nanos; said = said_by kind; unknown = unknown_by kind }
+
+-- ---- names that no group has
+
+abbrev pub unknown_names : List Noted → List (Option (List ℕ))
+unknown_names h = map (λ n. n.unknown) h
 
 -- ---- fresh right frames
 

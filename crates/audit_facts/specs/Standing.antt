@@ -7,7 +7,8 @@ use Rattle.member_notes.specs.FactsKept.{HoldsFacts, Speakers}
 use Rattle.rollover_notes.specs.Events.{Event}
 use Rattle.rollover_notes.specs.Standing.{KeptRollovers, StandsFor as RolloverStandsFor}
 use Rattle.use_notes.specs.declared.frame.RightFrame.{RightFrame}
-use Rattle.audit_facts.specs.Noted.{Noted, events, fresh_frames, givings, reuses, spoken_of}
+use Rattle.audit_report.specs.Unknown.{KeptNames, StandsFor as NamesStandFor}
+use Rattle.audit_facts.specs.Noted.{Noted, events, fresh_frames, givings, reuses, spoken_of, unknown_names}
 
 -- ---- what is told of changes, of members, and of who was ready for a key
 
@@ -25,12 +26,14 @@ pub record Holds (frames : List RightFrame) (spoken : List Spoken) (events : Lis
 abbrev pub ToldStandFor : List Noted → Told → Type 0
 ToldStandFor h kept = Holds (fresh_frames h) (spoken_of h) (events h) kept
 
--- ---- and what is marked
+-- ---- and what is marked, and which names no group has
 
 pub record KeptFacts : Type 0 where
   pub told : Told
   pub marks : KeptMarks
+  pub unknown : KeptNames
 
 pub record StandsFor (h : List Noted) (kept : KeptFacts) : Type 0 where
   pub told : ToldStandFor h kept.told
   pub marks : MarksStandFor (givings h) (reuses h) kept.marks
+  pub unknown : NamesStandFor (unknown_names h) kept.unknown

@@ -7,13 +7,15 @@ ghost use Rattle.mark_notes.specs.Standing.{KeepsReuses};
 ghost use Rattle.member_notes.specs.Facts.{AreMembersOf};
 ghost use Rattle.rollover_notes.specs.Counted.{AreUnreadyOf};
 ghost use Rattle.rollover_notes.specs.Reported.{AreReportsOf};
+ghost use Rattle.audit_report.specs.Unknown.{unknown_of};
 ghost use Rattle.audit_report.specs.Uses.{timed};
-ghost use Rattle.audit_facts.specs.Noted.{IsNext, Noted, events, fresh_frames, givings, noted_of, reuses, spoken_of};
+ghost use Rattle.audit_facts.specs.Noted.{IsNext, Noted, events, fresh_frames, givings, noted_of, reuses, spoken_of, unknown_names};
 ghost use Rattle.audit_facts.specs.Standing.{StandsFor};
 
 use crate::marks::mark;
+use crate::names::name;
 use crate::told_facts::ToldFacts;
-use audit_report::{Finding, TimedUse};
+use audit_report::{Finding, TimedUse, UnknownName, UnknownNames};
 use lan_base::Sci;
 use mark_notes::{Giving, MarkNotes, Reuse};
 use member_notes::Member;
@@ -27,12 +29,13 @@ use use_notes::changes::Change;
 
 /// What the packets of a capture tell, one after another: from which key each sender came to which, what
 /// is told of each member, and who was ready for a key; and what a picture marks: where each key was
-/// given first, and which packets were reused. A value that answered that memory ran out is not to be
+/// given first, and which packets were reused; and which names no group has. A value that answered that memory ran out is not to be
 /// used again: no clause speaks of it. Contracts see what is kept of both.
 #[derive(Drop)]
 pub struct AuditFacts {
     told: ToldFacts,
     marks: MarkNotes,
+    unknown: UnknownNames,
 }
 
 impl Model for AuditFacts {
@@ -40,7 +43,7 @@ impl Model for AuditFacts {
 
     ghost Value = { KeptFacts };
 
-    ghost view = { λ f. record { told = f.told; marks = f.marks } };
+    ghost view = { λ f. record { told = f.told; marks = f.marks; unknown = f.unknown } };
 }
 
 impl AuditFacts {
@@ -51,6 +54,7 @@ impl AuditFacts {
         AuditFacts {
             told: ToldFacts::new(alloc),
             marks: MarkNotes::new(alloc),
+            unknown: UnknownNames::new(alloc),
         }
     }
 
@@ -61,7 +65,8 @@ impl AuditFacts {
             → OnOk result (StandsFor (noted_of finding.now nanos kind.now ∷ h) self.new) }
     {
         self.told.note(finding, nanos, kind)?;
-        mark(&mut self.marks, finding)
+        mark(&mut self.marks, finding)?;
+        name(&mut self.unknown, kind)
     }
 
     /// The changes of each sender, by sender in ascending order and then in turn.
@@ -95,6 +100,14 @@ impl AuditFacts {
             → IfOk result (λ us. us.items ≡ map (timed (events h)) uses.now) }
     {
         self.told.timed(uses)
+    }
+
+    /// What is told of the names that no group has, in ascending order.
+    pub fn unknown(&self) -> Result<Vec<UnknownName>, AllocError>
+        ensures { (h : List Noted) → StandsFor h self.now
+            → IfOk result (λ us. us.items ≡ unknown_of (unknown_names h)) }
+    {
+        self.unknown.told()
     }
 
     /// What is told of each member and key that it reported, by group, MI and key.

@@ -4,6 +4,7 @@
 
 mod facts;
 mod marks;
+mod names;
 mod told_facts;
 mod view;
 

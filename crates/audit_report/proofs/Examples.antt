@@ -40,7 +40,7 @@ use Rattle.audit_report.specs.Told.{Told}
 use Rattle.audit_report.specs.Lines.{set_lines}
 use Rattle.audit_report.specs.Packets.{begun_words, event_lines, finding_lines, handed_lines}
 use Rattle.audit_report.specs.Tallies.{tally_of}
-use Rattle.audit_report.specs.Uses.{use_line}
+use Rattle.audit_report.specs.Uses.{timed_line, with_late}
 use Rattle.audit_report.specs.Verdicts.{Verdict, one_key_line}
 use Rattle.audit_report.specs.Report.{packet_lines, read_line, report}
 
@@ -122,13 +122,14 @@ judged fs =
       once = first_reuse fs;
       one_key = None;
       uses = noted ∷ [];
-      timed = record { noted = noted; late = 0 } ∷ [];
+      timed = record { noted = noted; late = 0; first_late = 0 } ∷ [];
       changes = [];
       unready = [];
       members = told_of_m1 ∷ [];
+      unknown = [];
     }
 
-one_frame : report false [] (told_frame (frame 10 4 60) [] ∷ agreed) (judged (frame 10 4 60 ∷ [])) endings.Whole
+one_frame : report false true [] (told_frame (frame 10 4 60) [] ∷ agreed) (judged (frame 10 4 60 ∷ [])) endings.Whole
     ≡ texts (codes "packet 5 key 1 group 1 ki 000000000000000000000001 1 an 0 suite 128 offset 1 sak 00000000000000000000000000000003"
     ∷ codes "read 10 whole"
     ∷ codes "packets mka 9 sec 1 other 0 foreign 0 untimed 0"
@@ -136,7 +137,7 @@ one_frame : report false [] (told_frame (frame 10 4 60) [] ∷ agreed) (judged (
     ∷ codes "sec right 1 wrong 0 undecided 0 malformed 0 cut 0"
     ∷ codes "undecided suite 0 offset 0 unseen 0 ckn 0 nokey 0"
     ∷ codes "malformed version 0 mode 0 short 0 slwrong 0 long 0"
-    ∷ codes "use 1 02000000000a0001 frames 1 pn 1 1 packets 10 10 repeated 0 0 reused 0 fell 0 window 0 clear 0 late 0"
+    ∷ codes "use 1 02000000000a0001 frames 1 pn 1 1 packets 10 10 repeated 0 0 reused 0 fell 0 window 0 clear 0 late 0 0"
     ∷ codes "member 1 000000000000000000000001 sci 02000000000a0001 mkpdus 9 again 0 given 1 fell 0 0 servers 0 0 returned 0 0 high 0 0"
     ∷ codes "once ok 1 of 1"
     ∷ codes "onekey ok 1 of 1"
@@ -147,7 +148,7 @@ unfolding digits encode_with
 one_frame = refl
 
 -- and its packet number with other octets
-reused : report false [] (told_frame (frame 11 5 61) (frame 10 4 60 ∷ []) ∷ told_frame (frame 10 4 60) [] ∷ agreed)
+reused : report false true [] (told_frame (frame 11 5 61) (frame 10 4 60 ∷ []) ∷ told_frame (frame 10 4 60) [] ∷ agreed)
     (judged (frame 11 5 61 ∷ frame 10 4 60 ∷ [])) endings.Whole
     ≡ texts (codes "packet 5 key 1 group 1 ki 000000000000000000000001 1 an 0 suite 128 offset 1 sak 00000000000000000000000000000003"
     ∷ codes "packet 11 reuse key 1 sci 02000000000a0001 pn 1 first 10"
@@ -157,7 +158,7 @@ reused : report false [] (told_frame (frame 11 5 61) (frame 10 4 60 ∷ []) ∷ 
     ∷ codes "sec right 2 wrong 0 undecided 0 malformed 0 cut 0"
     ∷ codes "undecided suite 0 offset 0 unseen 0 ckn 0 nokey 0"
     ∷ codes "malformed version 0 mode 0 short 0 slwrong 0 long 0"
-    ∷ codes "use 1 02000000000a0001 frames 2 pn 1 1 packets 10 11 repeated 0 0 reused 1 fell 0 window 0 clear 0 late 0"
+    ∷ codes "use 1 02000000000a0001 frames 2 pn 1 1 packets 10 11 repeated 0 0 reused 1 fell 0 window 0 clear 0 late 0 0"
     ∷ codes "member 1 000000000000000000000001 sci 02000000000a0001 mkpdus 9 again 0 given 1 fell 0 0 servers 0 0 returned 0 0 high 0 0"
     ∷ codes "once broken 10 11"
     ∷ codes "onekey ok 1 of 1"
@@ -168,13 +169,14 @@ unfolding digits encode_with
 reused = refl
 
 -- the frame once more, 0.1 s later
-repeated : use_line (record { key = 1; sci = a; counts = counts_of (frame 11 4 61 ∷ frame 10 4 60 ∷ []) }) 0
-    ≡ texts (codes "use 1 02000000000a0001 frames 2 pn 1 1 packets 10 10 repeated 1 100 reused 0 fell 0 window 0 clear 0 late 0" ∷ [])
+repeated : timed_line (with_late (record { key = 1; sci = a; counts = counts_of (frame 11 4 61 ∷ frame 10 4 60 ∷ []) })
+    (record { frames = 0; first = 0 }))
+    ≡ texts (codes "use 1 02000000000a0001 frames 2 pn 1 1 packets 10 10 repeated 1 100 reused 0 fell 0 window 0 clear 0 late 0 0" ∷ [])
 unfolding digits encode_with
 repeated = refl
 
 -- without its last octet
-cut_off : report false [] agreed (record (judged []) { uses = []; timed = [] }) (endings.Octet 1146 faults.Cut)
+cut_off : report false true [] agreed (record (judged []) { uses = []; timed = [] }) (endings.Octet 1146 faults.Cut)
     ≡ texts (codes "packet 5 key 1 group 1 ki 000000000000000000000001 1 an 0 suite 128 offset 1 sak 00000000000000000000000000000003"
     ∷ codes "read 9 octet 1146 Cut"
     ∷ codes "packets mka 9 sec 0 other 0 foreign 0 untimed 0"
@@ -208,12 +210,21 @@ too_many_keys = refl
 abbrev by_hand : ℕ → Sender → Secret → HandKey
 by_hand line sender sak = record { line = line; sender = sender; an = An3; sak = sak }
 
-set_by_hand : set_lines ((1, by_hand 1 (One a) (S128 (replicate 16 0xa1))) ∷ (2, by_hand 4 Any (S256 (replicate 32 0xb2))) ∷ [])
+abbrev two_set : List (ℕ × HandKey)
+two_set = (1, by_hand 1 (One a) (S128 (replicate 16 0xa1))) ∷ (2, by_hand 4 Any (S256 (replicate 32 0xb2))) ∷ []
+
+set_by_hand : set_lines true two_set
     ≡ texts (codes "line 1 key 1 sci 02000000000a0001 an 3 suite 128 sak a1a1a1a1a1a1a1a1a1a1a1a1a1a1a1a1"
     ∷ codes "line 4 key 2 sci any an 3 suite 256 sak b2b2b2b2b2b2b2b2b2b2b2b2b2b2b2b2b2b2b2b2b2b2b2b2b2b2b2b2b2b2b2b2"
     ∷ [])
 unfolding digits encode_with
 set_by_hand = refl
+
+-- where keys are not told
+set_unasked : set_lines false two_set
+    ≡ texts (codes "line 1 key 1 sci 02000000000a0001 an 3 suite 128" ∷ codes "line 4 key 2 sci any an 3 suite 256" ∷ [])
+unfolding digits encode_with
+set_unasked = refl
 
 -- ---- the line of each packet
 
@@ -236,13 +247,13 @@ various =
     ∷ told (begun_words user (kinds.Mka mkas.Cut)) findings.MkaCut
     ∷ told (codes "other" ∷ []) findings.Other ∷ []
 
-shown : packet_lines true various
+shown : packet_lines true false various
     ≡ texts (codes "packet 1 other" ∷ codes "packet 2 mka cut" ∷ codes "packet 3 sec cut"
     ∷ codes "packet 4 sec malformed short" ∷ codes "packet 5 sec malformed long" ∷ codes "packet 6 foreign" ∷ [])
 unfolding digits
 shown = refl
 
-not_shown : packet_lines false various ≡ []
+not_shown : packet_lines false true various ≡ []
 not_shown = refl
 
 counted : tally_of various ≡ record {
@@ -282,18 +293,18 @@ says_its_tag : begun_words sealed (kinds.Sec (secs.Protected (tag_in sealed) (re
 unfolding digits encode_with
 says_its_tag = refl
 
-undecided : finding_lines true 1 open_words (findings.Undecided NoKey)
+undecided : finding_lines true false 1 open_words (findings.Undecided NoKey)
     ≡ texts (codes "packet 1 sec 02000000000a0001 an 0 pn 1 conf 1 undecided nokey" ∷ [])
 unfolding digits encode_with
 undecided = refl
 
-right : finding_lines true 12 open_words (findings.RightFrame (frame 12 4 61) (novelty_in (frame 10 4 60 ∷ []) (frame 12 4 61)))
+right : finding_lines true false 12 open_words (findings.RightFrame (frame 12 4 61) (novelty_in (frame 10 4 60 ∷ []) (frame 12 4 61)))
     ≡ texts (codes "packet 12 sec 02000000000a0001 an 0 pn 1 conf 1 key 1 repeated 10" ∷ [])
 unfolding digits encode_with
 right = refl
 
 -- an MKPDU that comes again, and one that gives a key for the second time
-again : finding_lines true 7 (codes "mka" ∷ []) (findings.RightMkpdu (record { packet = 7; group = 2; mi = m1; mn = 6; check = [] })
+again : finding_lines true false 7 (codes "mka" ∷ []) (findings.RightMkpdu (record { packet = 7; group = 2; mi = m1; mn = 6; check = [] })
     (mkpdus.Again 6) None)
     ≡ texts (codes "packet 7 mka group 2 again 6" ∷ [])
 unfolding digits encode_with
@@ -305,24 +316,29 @@ again = refl
 abbrev two_names : Gives
 two_names = record { key = 2; is_new = true; is_new_naming = true; other_name = Some 5; other_id = Some 3 }
 
-one_key_twice : event_lines 8 (findings.RightMkpdu (record { packet = 8; group = 3; mi = m1; mn = 6; check = [] }) mkpdus.New
+one_key_twice : event_lines true 8 (findings.RightMkpdu (record { packet = 8; group = 3; mi = m1; mn = 6; check = [] }) mkpdus.New
     (Some (handeds.Key (key_id 1) An3 offsets.Octets50 (S256 (replicate 31 0 ++ 7 ∷ [])) two_names)))
     ≡ texts (codes "packet 8 key 2 group 3 ki 000000000000000000000001 1 an 3 suite 256 offset 3 sak 0000000000000000000000000000000000000000000000000000000000000007"
     ∷ codes "packet 8 onekey ki 000000000000000000000001 1 first 5" ∷ codes "packet 8 onekey sak 2 first 3" ∷ [])
 unfolding digits encode_with
 one_key_twice = refl
 
+given_unasked : packet_lines false false agreed
+    ≡ texts (codes "packet 5 key 1 group 1 ki 000000000000000000000001 1 an 0 suite 128 offset 1" ∷ [])
+unfolding digits encode_with
+given_unasked = refl
+
 -- once more: nothing is told
-said_before : handed_lines 9 3 (handeds.Key (key_id 1) An3 offsets.Octets50 k3
+said_before : handed_lines true 9 3 (handeds.Key (key_id 1) An3 offsets.Octets50 k3
     (record { key = 2; is_new = false; is_new_naming = false; other_name = Some 5; other_id = Some 3 })) ≡ []
 said_before = refl
 
-other_suite : handed_lines 4 1 (handeds.Untaken (key_id 2) OtherSuite true)
+other_suite : handed_lines true 4 1 (handeds.Untaken (key_id 2) OtherSuite true)
     ≡ texts (codes "packet 4 untaken 000000000000000000000001 2 suite" ∷ [])
 unfolding digits encode_with
 other_suite = refl
 
-wrong_wrap : handed_lines 4 1 (handeds.Untaken (key_id 2) WrongWrap true)
+wrong_wrap : handed_lines true 4 1 (handeds.Untaken (key_id 2) WrongWrap true)
     ≡ texts (codes "packet 4 untaken 000000000000000000000001 2 wrap" ∷ [])
 unfolding digits encode_with
 wrong_wrap = refl

@@ -4,3 +4,5 @@ mod Examples
 mod MemberExamples
 mod ReadinessExamples
 mod VerdictExamples
+mod Names
+mod UnknownExamples

@@ -25,6 +25,7 @@ abbrev late_use : TimedUse
 late_use = record {
   noted = record { key = 1; sci = record { 0 = 2 ∷ 0 ∷ 0 ∷ 0 ∷ 0 ∷ 10 ∷ 0 ∷ 1 ∷ [] }; counts = counts_of [] };
   late = 2;
+  first_late = 24;
 }
 
 one_unready : unready_line one
@@ -33,7 +34,7 @@ unfolding digits encode_with
 one_unready = refl
 
 two_late : timed_line late_use
-    ≡ codes "use 1 02000000000a0001 frames 0 pn 0 0 packets 0 0 repeated 0 0 reused 0 fell 0 window 0 clear 0 late 2" ++ 10 ∷ []
+    ≡ codes "use 1 02000000000a0001 frames 0 pn 0 0 packets 0 0 repeated 0 0 reused 0 fell 0 window 0 clear 0 late 2 24" ++ 10 ∷ []
 unfolding digits encode_with
 two_late = refl
 

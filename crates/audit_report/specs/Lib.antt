@@ -6,6 +6,8 @@ pub mod Tallies
 pub mod Lines
 pub mod Packets
 pub mod Uses
+pub mod Unknown
+pub mod inside
 pub mod Changes
 pub mod Readiness
 pub mod Members

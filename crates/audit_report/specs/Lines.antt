@@ -1,5 +1,5 @@
 -- Lines, and those of keys that are set by hand (this profile's own forms).
-use Rattle.std.specs.Prelude.{ℕ, List, [], ◌∷◌, ◌++◌, codes, decimal, flat_map}
+use Rattle.std.specs.Prelude.{ℕ, Bool, if◌then◌else◌, List, [], ◌∷◌, ◌++◌, codes, decimal, flat_map}
 use Rattle.hex.specs.Hex.{encode_lower}
 use Rattle.aes_block.specs.Secrets.{secret_octets}
 use Rattle.aes_block.specs.declared.secret.Secret.{Secret}
@@ -30,6 +30,10 @@ abbrev pub suite_of : Secret → ℕ
 suite_of (S128 octets) = 128
 suite_of (S256 octets) = 256
 
+-- a key itself, where keys are told
+abbrev pub sak_part : Bool → Secret → List (List ℕ)
+sak_part keys sak = if keys then codes "sak" ∷ encode_lower (secret_octets sak) ∷ [] else []
+
 -- ---- keys that are set by hand
 
 abbrev pub sender_word : Sender → List ℕ
@@ -37,11 +41,11 @@ sender_word Any = codes "any"
 sender_word (One sci) = encode_lower sci.0
 
 -- a key with its number among the keys
-abbrev pub hand_line : ℕ → HandKey → List ℕ
-hand_line number key = line_of (codes "line") (decimal key.line ∷ codes "key" ∷ decimal number
+abbrev pub hand_line : Bool → ℕ → HandKey → List ℕ
+hand_line keys number key = line_of (codes "line") (decimal key.line ∷ codes "key" ∷ decimal number
     ∷ codes "sci" ∷ sender_word key.sender ∷ codes "an" ∷ decimal (number_of key.an) ∷ codes "suite"
-    ∷ decimal (suite_of key.sak) ∷ codes "sak" ∷ encode_lower (secret_octets key.sak) ∷ [])
+    ∷ decimal (suite_of key.sak) ∷ sak_part keys key.sak)
 
 -- keys, each with its number
-abbrev pub set_lines : List (ℕ × HandKey) → List ℕ
-set_lines keys = flat_map (λ it. hand_line it.0 it.1) keys
+abbrev pub set_lines : Bool → List (ℕ × HandKey) → List ℕ
+set_lines keys hand = flat_map (λ it. hand_line keys it.0 it.1) hand

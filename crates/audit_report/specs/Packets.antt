@@ -2,7 +2,6 @@
 -- of a key that is given, of a name that was given to two, and of a packet number that is used again.
 use Rattle.std.specs.Prelude.{ℕ, Bool, if◌then◌else◌, List, [], ◌∷◌, ◌++◌, codes, decimal, Option, Some, None}
 use Rattle.hex.specs.Hex.{encode_lower}
-use Rattle.aes_block.specs.Secrets.{secret_octets}
 use Rattle.aes_block.specs.declared.secret.Secret.{Secret}
 use Rattle.capture_file.specs.Describing.{malformed_words, packet_words, tag_words}
 use Rattle.known_keys.specs.declared.gives.Gives.{Gives}
@@ -30,7 +29,7 @@ use Rattle.audit_report.specs.declared.finding.Finding.{Finding}
 use Rattle.audit_report.specs.declared.finding.Finding.TheVariants as findings
 use Rattle.audit_report.specs.declared.finding.Handed.{Handed}
 use Rattle.audit_report.specs.declared.finding.Handed.TheVariants as handeds
-use Rattle.audit_report.specs.Lines.{packet_line, suite_of}
+use Rattle.audit_report.specs.Lines.{packet_line, sak_part, suite_of}
 
 -- ---- what its line begins with
 
@@ -95,9 +94,10 @@ abbrev pub given_words : ℕ → ℕ → KeyId → List (List ℕ)
 given_words key group id =
     codes "key" ∷ decimal key ∷ codes "group" ∷ decimal group ∷ codes "ki" ∷ id_words id
 
-abbrev pub sak_words : AssociationNumber → ConfidentialityOffset → Secret → List (List ℕ)
-sak_words an offset sak = codes "an" ∷ decimal (number_of an) ∷ codes "suite" ∷ decimal (suite_of sak)
-    ∷ codes "offset" ∷ decimal (offset_bits offset) ∷ codes "sak" ∷ encode_lower (secret_octets sak) ∷ []
+-- and itself, where keys are told
+abbrev pub sak_words : Bool → AssociationNumber → ConfidentialityOffset → Secret → List (List ℕ)
+sak_words keys an offset sak = codes "an" ∷ decimal (number_of an) ∷ codes "suite" ∷ decimal (suite_of sak)
+    ∷ codes "offset" ∷ decimal (offset_bits offset) ∷ sak_part keys sak
 
 abbrev pub why_text : NoSak → List ℕ
 why_text OtherSuite = codes "suite"
@@ -125,11 +125,11 @@ naming_lines n id told =
     else []
 
 -- the first time that its group says so, and the first that names it so
-abbrev pub handed_lines : ℕ → ℕ → Handed → List ℕ
-handed_lines n group (handeds.Key id an offset sak told) =
-    (if told.is_new then packet_line n (given_words told.key group id ++ sak_words an offset sak) else [])
+abbrev pub handed_lines : Bool → ℕ → ℕ → Handed → List ℕ
+handed_lines keys n group (handeds.Key id an offset sak told) =
+    (if told.is_new then packet_line n (given_words told.key group id ++ sak_words keys an offset sak) else [])
     ++ naming_lines n id told
-handed_lines n group (handeds.Untaken id why is_new) =
+handed_lines keys n group (handeds.Untaken id why is_new) =
     if is_new then packet_line n (untaken_words id why) else []
 
 -- ---- a packet number that is used again
@@ -142,13 +142,13 @@ reuse_lines n frame _ = []
 
 -- ---- all of a packet
 
--- what is told of every packet
-abbrev pub event_lines : ℕ → Finding → List ℕ
-event_lines n (findings.RightFrame frame novelty) = reuse_lines n frame novelty
-event_lines n (findings.RightMkpdu mkpdu novelty (Some handed)) = handed_lines n mkpdu.group handed
-event_lines n _ = []
+-- what is told of every packet, with keys themselves or without
+abbrev pub event_lines : Bool → ℕ → Finding → List ℕ
+event_lines keys n (findings.RightFrame frame novelty) = reuse_lines n frame novelty
+event_lines keys n (findings.RightMkpdu mkpdu novelty (Some handed)) = handed_lines keys n mkpdu.group handed
+event_lines keys n _ = []
 
 -- with its own line, which begins with these words, or without
-abbrev pub finding_lines : Bool → ℕ → List (List ℕ) → Finding → List ℕ
-finding_lines shows n words finding =
-    (if shows then packet_line n (words ++ judged_words finding) else []) ++ event_lines n finding
+abbrev pub finding_lines : Bool → Bool → ℕ → List (List ℕ) → Finding → List ℕ
+finding_lines shows keys n words finding =
+    (if shows then packet_line n (words ++ judged_words finding) else []) ++ event_lines keys n finding

@@ -13,16 +13,18 @@ use Rattle.audit_report.specs.declared.tally.UndecidedCounts.{UndecidedCounts}
 use Rattle.audit_report.specs.Told.{Told}
 use Rattle.audit_report.specs.Lines.{counts_line, line_of, set_lines}
 use Rattle.audit_report.specs.Packets.{finding_lines}
+use Rattle.audit_report.specs.declared.unknown.UnknownName.{UnknownName}
 use Rattle.audit_report.specs.Tallies.{tally_of}
+use Rattle.audit_report.specs.Unknown.{unknown_lines}
 use Rattle.audit_report.specs.Verdicts.{Verdict, begun_verdict, verdict_lines}
 
 -- ---- the lines of packets
 
--- of which the newest is the first
-abbrev pub packet_lines : Bool → List Told → List ℕ
-packet_lines shows [] = []
-packet_lines shows (t ∷ before) =
-    packet_lines shows before ++ finding_lines shows (length before + 1) t.begun t.finding
+-- of which the newest is the first, with their own lines or without, and with keys themselves or without
+abbrev pub packet_lines : Bool → Bool → List Told → List ℕ
+packet_lines shows keys [] = []
+packet_lines shows keys (t ∷ before) =
+    packet_lines shows keys before ++ finding_lines shows keys (length before + 1) t.begun t.finding
 
 -- ---- how many packets there are of each kind
 
@@ -64,20 +66,20 @@ abbrev pub malformed_line : Malformations → List ℕ
 malformed_line m = counts_line (codes "malformed") ((codes "version", m.version) ∷ (codes "mode", m.mode)
     ∷ (codes "short", m.short) ∷ (codes "slwrong", m.sl_wrong) ∷ (codes "long", m.long) ∷ [])
 
-abbrev pub count_lines : Tally → Ending → List ℕ
-count_lines t ending = read_line t.all ending ++ (packets_line t ++ (mka_line t.mka
-    ++ (sec_line t.sec ++ (undecided_line t.sec.reasons ++ malformed_line t.sec.malformations))))
+abbrev pub count_lines : Tally → List UnknownName → Ending → List ℕ
+count_lines t unknown ending = read_line t.all ending ++ (packets_line t ++ (mka_line t.mka ++ (unknown_lines unknown
+    ++ (sec_line t.sec ++ (undecided_line t.sec.reasons ++ malformed_line t.sec.malformations)))))
 
 -- ---- the report
 
 -- before the lines of members
 abbrev pub begun_lines : Tally → Verdict → Ending → List ℕ
-begun_lines t v ending = count_lines t ending ++ begun_verdict v
+begun_lines t v ending = count_lines t v.unknown ending ++ begun_verdict v
 
 abbrev pub end_lines : Tally → Verdict → Ending → List ℕ
-end_lines t v ending = count_lines t ending ++ verdict_lines t v
+end_lines t v ending = count_lines t v.unknown ending ++ verdict_lines t v
 
 -- keys that are set by hand with their numbers, what is told of packets, and the end
-abbrev pub report : Bool → List (ℕ × HandKey) → List Told → Verdict → Ending → List ℕ
-report shows hand told v ending =
-    set_lines hand ++ (packet_lines shows told ++ end_lines (tally_of told) v ending)
+abbrev pub report : Bool → Bool → List (ℕ × HandKey) → List Told → Verdict → Ending → List ℕ
+report shows keys hand told v ending =
+    set_lines keys hand ++ (packet_lines shows keys told ++ end_lines (tally_of told) v ending)

@@ -1,16 +1,19 @@
--- What is told of each key and sender, with how many of its fresh frames came late.
+-- What is told of each key and sender, with which of its fresh frames came late.
 use Rattle.std.specs.Prelude.{ℕ, List, [], ◌∷◌, ◌++◌, flat_map, codes, decimal}
 use Rattle.hex.specs.Hex.{encode_lower}
-use Rattle.use_notes.specs.declared.counts.Counts.{Counts}
 use Rattle.use_notes.specs.declared.notes.Use.{Use}
+use Rattle.rollover_notes.specs.declared.late_frames.LateFrames.{LateFrames}
 use Rattle.rollover_notes.specs.Counted.{late}
 use Rattle.rollover_notes.specs.Events.{Event}
 use Rattle.audit_report.specs.declared.uses.TimedUse.{TimedUse}
 use Rattle.audit_report.specs.Lines.{line_of}
 
--- what is told of a key and a sender, and how many of its fresh frames came late
+-- what is told of a key and a sender, how many of its fresh frames came late, and the first of them
+abbrev pub with_late : Use → LateFrames → TimedUse
+with_late u late = record { noted = u; late = late.frames; first_late = late.first }
+
 abbrev pub timed : List Event → Use → TimedUse
-timed h u = record { noted = u; late = late h (u.key, u.sci) }
+timed h u = with_late u (late h (u.key, u.sci))
 
 -- ---- lines
 
@@ -21,17 +24,16 @@ use_words u = decimal u.key ∷ encode_lower u.sci.0 ∷ codes "frames" ∷ deci
     ∷ codes "pn" ∷ decimal u.counts.low ∷ decimal u.counts.high ∷ codes "packets"
     ∷ decimal u.counts.first ∷ decimal u.counts.last ∷ []
 
--- in which order they came, how many are without confidentiality, and how many came late
-abbrev pub order_words : Counts → ℕ → List (List ℕ)
-order_words c late = codes "repeated" ∷ decimal c.repeated ∷ decimal c.longest ∷ codes "reused"
-    ∷ decimal c.reused ∷ codes "fell" ∷ decimal c.fell ∷ codes "window" ∷ decimal c.window
-    ∷ codes "clear" ∷ decimal c.clear ∷ codes "late" ∷ decimal late ∷ []
-
-abbrev pub use_line : Use → ℕ → List ℕ
-use_line u late = line_of (codes "use") (use_words u ++ order_words u.counts late)
+-- in which order they came, how many are without confidentiality, and how many came late, with the first
+-- of these
+abbrev pub order_words : TimedUse → List (List ℕ)
+order_words u = codes "repeated" ∷ decimal u.noted.counts.repeated ∷ decimal u.noted.counts.longest
+    ∷ codes "reused" ∷ decimal u.noted.counts.reused ∷ codes "fell" ∷ decimal u.noted.counts.fell
+    ∷ codes "window" ∷ decimal u.noted.counts.window ∷ codes "clear" ∷ decimal u.noted.counts.clear
+    ∷ codes "late" ∷ decimal u.late ∷ decimal u.first_late ∷ []
 
 abbrev pub timed_line : TimedUse → List ℕ
-timed_line u = use_line u.noted u.late
+timed_line u = line_of (codes "use") (use_words u.noted ++ order_words u)
 
 abbrev pub timed_lines : List TimedUse → List ℕ
 timed_lines us = flat_map timed_line us

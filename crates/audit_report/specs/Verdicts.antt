@@ -1,6 +1,5 @@
 -- What is judged of packets, and its lines.
-use Rattle.std.specs.Prelude.{ℕ, ◌||◌, ◌&&◌, nat_lt, if◌then◌else◌, Bool, List, [], ◌∷◌, ◌++◌, length, codes, decimal, Option, Some, None}
-use Rattle.std.specs.Option.{is_some}
+use Rattle.std.specs.Prelude.{ℕ, ◌==◌, ◌||◌, nat_lt, if◌then◌else◌, Bool, List, [], ◌∷◌, ◌++◌, length, codes, decimal, Option, Some, None}
 use Rattle.use_notes.specs.declared.changes.change.Change.{Change}
 use Rattle.member_notes.specs.Facts.{sums_of as member_sums}
 use Rattle.member_notes.specs.declared.facts.Member.{Member}
@@ -10,7 +9,11 @@ use Rattle.use_notes.specs.declared.order.Order.{Order}
 use Rattle.use_notes.specs.Uses.{order_of}
 use Rattle.audit_report.specs.declared.blame.Blame.{Blame}
 use Rattle.audit_report.specs.declared.blame.Blame.TheVariants as blames
+use Rattle.audit_report.specs.declared.blame.Breach.{Breach}
+use Rattle.audit_report.specs.declared.blame.Breach.TheVariants as breaches
+use Rattle.audit_report.specs.declared.tally.SecCounts.{SecCounts}
 use Rattle.audit_report.specs.declared.tally.Tally.{Tally}
+use Rattle.audit_report.specs.declared.unknown.UnknownName.{UnknownName}
 use Rattle.audit_report.specs.declared.uses.TimedUse.{TimedUse}
 use Rattle.audit_report.specs.Changes.{change_lines}
 use Rattle.audit_report.specs.Lines.{counts_line, line_of}
@@ -21,7 +24,7 @@ use Rattle.audit_report.specs.Uses.{timed_lines}
 -- The least pair that uses a packet number twice under a key, and the least that breaks one key under each
 -- identifier; what is told of each key and sender, and the same with how many of its fresh frames came late;
 -- from which key each sender came to which, and which members were not ready for a key; and what is told of
--- each member.
+-- each member, and of the names that no group has.
 pub record Verdict : Type 0 where
   pub once : Option (ℕ × ℕ)
   pub one_key : Option (ℕ × ℕ)
@@ -30,22 +33,35 @@ pub record Verdict : Type 0 where
   pub changes : List Change
   pub unready : List Unready
   pub members : List Member
-
--- a pair breaks
-abbrev pub is_refuted : Verdict → Bool
-is_refuted v = is_some v.once || is_some v.one_key
+  pub unknown : List UnknownName
 
 -- ---- for what a capture is to blame
 
--- where no pair breaks: of its protected frames, so many are wrong and so many undecided, and a strict judge
--- allows none of both
-abbrev pub doubt : Bool → Tally → Blame
-doubt strict t = if strict && (nat_lt 0 t.sec.wrong || nat_lt 0 t.sec.undecided)
-    then blames.Doubted t.sec.wrong t.sec.undecided else blames.None
+-- what breaks: of the two least pairs that which shares a nonce comes before that which disagrees on a key
+abbrev pub breach_of : Option (ℕ × ℕ) → Option (ℕ × ℕ) → Option Breach
+breach_of (Some pair) one_key = Some (breaches.Nonce pair.0 pair.1)
+breach_of None (Some pair) = Some (breaches.Key pair.0 pair.1)
+breach_of None None = None
 
--- a pair that breaks comes before all doubt
+abbrev pub breach : Verdict → Option Breach
+breach v = breach_of v.once v.one_key
+
+-- what a strict judge asks of protected frames: none is wrong or undecided, and one is right
+abbrev pub strict_doubt : SecCounts → Blame
+strict_doubt s = if nat_lt 0 s.wrong || nat_lt 0 s.undecided then blames.Doubted s.wrong s.undecided
+    else (if s.right == 0 then blames.NotJudged else blames.None)
+
+-- where no pair breaks
+abbrev pub doubt : Bool → Tally → Blame
+doubt strict t = if strict then strict_doubt t.sec else blames.None
+
+-- a breach comes before all doubt
+abbrev pub blame_for : Option Breach → Blame → Blame
+blame_for (Some breach) doubted = blames.Refuted breach
+blame_for None doubted = doubted
+
 abbrev pub blame : Bool → Tally → Verdict → Blame
-blame strict t v = if is_refuted v then blames.Refuted else doubt strict t
+blame strict t v = blame_for (breach v) (doubt strict t)
 
 -- ---- lines
 

@@ -6,7 +6,7 @@ ghost use Rattle.audit_report.specs.Lines.{line_of, packet_line};
 ghost use Rattle.audit_report.specs.Packets.{event_lines, given_words, handed_lines, id_line, name_line, naming_lines, reuse_lines, sak_words, untaken_words, why_text};
 
 use crate::finding::{Finding, Handed};
-use crate::lines::{number, put_line, suite};
+use crate::lines::{end_with_key, number, put_line, suite};
 use aes_block::Secret;
 use known_keys::{Gives, NoSak};
 use lan_base::{AssociationNumber, KeyId};
@@ -15,9 +15,15 @@ use std::alloc::AllocError;
 use trace_text::{Word, put_words};
 use use_notes::{Novelty, RightFrame};
 
-/// Appends the lines that are told of a packet. An `Err` may leave a front of them.
-pub fn put_events(packet: u32, finding: &Finding, into: &mut Vec<u8>) -> Result<(), AllocError>
-    ensures { OnOk result (into.new.items ≡ into.old.items ++ event_lines packet finding.now) }
+/// Appends the lines that are told of a packet, with `keys` keys themselves too. An `Err` may leave a front
+/// of them.
+pub fn put_events(
+    packet: u32,
+    finding: &Finding,
+    keys: bool,
+    into: &mut Vec<u8>,
+) -> Result<(), AllocError>
+    ensures { OnOk result (into.new.items ≡ into.old.items ++ event_lines keys packet finding.now) }
 {
     match finding {
         Finding::RightFrame { frame, novelty } => put_reuse(packet, frame, *novelty, into),
@@ -25,7 +31,7 @@ pub fn put_events(packet: u32, finding: &Finding, into: &mut Vec<u8>) -> Result<
             mkpdu,
             handed: Some(handed),
             ..
-        } => put_handed(packet, mkpdu.group, handed, into),
+        } => put_handed(packet, mkpdu.group, handed, keys, into),
         _ => Ok(()),
     }
 }
@@ -66,10 +72,11 @@ fn put_handed(
     packet: u32,
     group: u32,
     handed: &Handed,
+    keys: bool,
     into: &mut Vec<u8>,
 ) -> Result<(), AllocError>
     ensures { OnOk result (into.new.items
-        ≡ into.old.items ++ handed_lines packet group handed.now) }
+        ≡ into.old.items ++ handed_lines keys packet group handed.now) }
 {
     match handed {
         Handed::Key {
@@ -81,7 +88,7 @@ fn put_handed(
         } => {
             if told.is_new {
                 put_given(packet, told.key, group, id, into)?;
-                put_sak(*an, *offset, sak, into)?;
+                put_sak(*an, *offset, sak, keys, into)?;
             }
             put_namings(packet, id, told, into)
         }
@@ -126,14 +133,14 @@ fn put_sak(
     an: AssociationNumber,
     offset: ConfidentialityOffset,
     sak: &Secret,
+    keys: bool,
     into: &mut Vec<u8>,
 ) -> Result<(), AllocError>
     ensures { OnOk result (into.new.items
-        ≡ into.old.items ++ line_of [] (sak_words an offset sak.now)) }
+        ≡ into.old.items ++ line_of [] (sak_words keys an offset sak.now)) }
 {
-    put_line(
+    put_words(
         into,
-        b"",
         &[
             Word::Text(b"an"),
             number(u32::from(an.number())),
@@ -141,10 +148,9 @@ fn put_sak(
             suite(sak),
             Word::Text(b"offset"),
             number(u32::from(offset.bits())),
-            Word::Text(b"sak"),
-            Word::Octets(sak.octets()),
         ],
-    )
+    )?;
+    end_with_key(sak, keys, into)
 }
 
 /// Appends the line of a key that is not taken.

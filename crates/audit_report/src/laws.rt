@@ -7,6 +7,6 @@ ghost use Rattle.audit_report.specs.Report.{packet_lines};
 /// Of a front of the packets the lines are a front of those of the whole: what was written while a
 /// capture grew is not taken back.
 pub fn law_a_front_is_told_first()
-    ensures { (shows : Bool) (later earlier : List Told)
-        → (more : List ℕ) × (packet_lines shows (later ++ earlier) ≡ packet_lines shows earlier ++ more) }
+    ensures { (shows keys : Bool) (later earlier : List Told) → (more : List ℕ)
+        × (packet_lines shows keys (later ++ earlier) ≡ packet_lines shows keys earlier ++ more) }
 {}

@@ -1,8 +1,8 @@
 //! A line is appended.
 
-ghost use Rattle.std.specs.Prelude.{◌≡◌, ◌++◌, map, OnOk, decimal};
+ghost use Rattle.std.specs.Prelude.{◌≡◌, ◌++◌, [], map, OnOk, decimal};
 ghost use Rattle.trace_text.specs.Appending.{word_text};
-ghost use Rattle.audit_report.specs.Lines.{line_of, suite_of};
+ghost use Rattle.audit_report.specs.Lines.{line_of, sak_part, suite_of};
 
 use aes_block::Secret;
 use std::alloc::AllocError;
@@ -34,4 +34,16 @@ pub fn suite(sak: &Secret) -> Word<'static>
         Secret::S128(_) => Word::Number(128),
         Secret::S256(_) => Word::Number(256),
     }
+}
+
+/// Appends the rest of the line of a key: with `keys` the key itself. An `Err` may leave a front of it.
+pub fn end_with_key(sak: &Secret, keys: bool, into: &mut Vec<u8>) -> Result<(), AllocError>
+    ensures { OnOk result (into.new.items
+        ≡ into.old.items ++ line_of [] (sak_part keys sak.now)) }
+{
+    if keys {
+        put_words(into, &[Word::Text(b"sak"), Word::Octets(sak.octets())])?;
+    }
+    into.push(b'\n')?;
+    Ok(())
 }

@@ -82,24 +82,25 @@ fn begin_described(packet: u32, frame: &[u8], into: &mut Vec<u8>) -> Result<(), 
 }
 
 /// Appends the lines of a packet: where lines of packets are shown, the one that was begun for it, and
-/// those that are told whatever is shown. An `Err` may leave a front of them.
+/// those that are told whatever is shown, with `keys` keys themselves too. An `Err` may leave a front of them.
 pub fn put_finding(
     shows: bool,
     begun: &[u8],
     packet: u32,
     finding: &Finding,
+    keys: bool,
     into: &mut Vec<u8>,
 ) -> Result<(), AllocError>
     ensures { (words : List (List ℕ)) → begun.now ≡ begun_part shows packet words
         → OnOk result (into.new.items
-        ≡ into.old.items ++ finding_lines shows packet words finding.now) }
+        ≡ into.old.items ++ finding_lines shows keys packet words finding.now) }
 {
     if shows {
         into.extend_from_slice(begun)?;
         put_judged(finding, into)?;
         into.push(b'\n')?;
     }
-    put_events(packet, finding, into)
+    put_events(packet, finding, keys, into)
 }
 
 /// Appends what is told of a frame behind what it says of itself.

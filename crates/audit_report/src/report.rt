@@ -8,6 +8,7 @@ ghost use Rattle.audit_report.specs.Verdicts.{last_lines};
 use crate::ending::Ending;
 use crate::lines::{number, put_line};
 use crate::tally::{Malformations, MkaCounts, SecCounts, Tally, UndecidedCounts};
+use crate::unknown::{UnknownName, put_unknown};
 use crate::verdict::Verdict;
 use capture_packets::CaptureFault;
 use std::alloc::{AllocError, Global};
@@ -23,7 +24,7 @@ pub fn begin_end(
     ensures { OnOk result (into.new.items
         ≡ into.old.items ++ begun_lines tally.now verdict.now ending) }
 {
-    put_counts(tally, ending, into)?;
+    put_counts(tally, verdict.unknown(), ending, into)?;
     verdict.begin(into)
 }
 
@@ -40,13 +41,19 @@ pub fn finish_end(
     verdict.put_sums(alloc, into)
 }
 
-/// Appends how many packets there are of each kind.
-fn put_counts(tally: &Tally, ending: Ending, into: &mut Vec<u8>) -> Result<(), AllocError>
-    ensures { OnOk result (into.new.items ≡ into.old.items ++ count_lines tally.now ending) }
+/// Appends how many packets there are of each kind, and the names that no group has.
+fn put_counts(
+    tally: &Tally,
+    unknown: &[UnknownName],
+    ending: Ending,
+    into: &mut Vec<u8>,
+) -> Result<(), AllocError>
+    ensures { OnOk result (into.new.items ≡ into.old.items ++ count_lines tally.now unknown.now ending) }
 {
     put_read(tally.all, ending, into)?;
     put_packets(tally, into)?;
     put_mka(&tally.mka, into)?;
+    put_unknown(unknown, into)?;
     put_sec(&tally.sec, into)?;
     put_undecided(&tally.sec.reasons, into)?;
     put_malformed(&tally.sec.malformations, into)

@@ -134,14 +134,17 @@ impl Tally {
         }
     }
 
-    /// For what a capture of these packets is to blame of which no pair breaks. With `strict` no protected
-    /// frame is to be wrong or undecided.
+    /// For what a capture of these packets is to blame of which no pair breaks. With `strict` a protected
+    /// frame is to be right, and none wrong or undecided.
     pub(crate) fn doubt(&self, strict: bool) -> Blame
         ensures { result ≡ doubt strict self.now }
     {
         let (wrong, undecided) = (self.sec.wrong, self.sec.undecided);
         if strict && (wrong > 0 || undecided > 0) {
             return Blame::Doubted { wrong, undecided };
+        }
+        if strict && self.sec.right == 0 {
+            return Blame::NotJudged;
         }
         Blame::None
     }

@@ -2,14 +2,15 @@
 
 ghost use Rattle.std.specs.Prelude.{◌≡◌, ◌++◌, OnOk};
 ghost use Rattle.audit_report.specs.Lines.{line_of};
-ghost use Rattle.audit_report.specs.Verdicts.{begun_verdict, blame, is_refuted, judged_lines, order_line, sum_lines, verdict_words};
+ghost use Rattle.audit_report.specs.Verdicts.{begun_verdict, blame, breach, judged_lines, order_line, sum_lines, verdict_words};
 
-use crate::blame::Blame;
+use crate::blame::{Blame, Breach};
 use crate::changes::put_changes;
 use crate::lines::{number, put_line};
 use crate::members::put_sums;
 use crate::readiness::{Sums, put_rollover, put_unready};
 use crate::tally::Tally;
+use crate::unknown::UnknownName;
 use crate::uses::{TimedUse, put_timed};
 use member_notes::{Member, MemberSums};
 use rollover_notes::Unready;
@@ -21,8 +22,8 @@ use use_notes::{Order, Use};
 
 /// What is judged of packets: the least pair that uses a packet number twice under a key, and the least
 /// that breaks one key under each identifier. And what is told of them: each key and sender, also with
-/// how many of its fresh frames came late, the changes of key, who was not ready for one, and the
-/// members. Contracts see the lists.
+/// how many of its fresh frames came late, the changes of key, who was not ready for one, the
+/// members, and the names that no group has. Contracts see the lists.
 #[derive(Drop)]
 pub struct Verdict {
     once: Option<(u32, u32)>,
@@ -32,6 +33,7 @@ pub struct Verdict {
     changes: Vec<Change>,
     unready: Vec<Unready>,
     members: Vec<Member>,
+    unknown: Vec<UnknownName>,
 }
 
 impl Model for Verdict {
@@ -47,6 +49,7 @@ impl Model for Verdict {
       changes = v.changes.items;
       unready = v.unready.items;
       members = v.members.items;
+      unknown = v.unknown.items;
     } };
 }
 
@@ -60,6 +63,7 @@ impl Verdict {
         changes: Vec<Change>,
         unready: Vec<Unready>,
         members: Vec<Member>,
+        unknown: Vec<UnknownName>,
     ) -> Verdict
         ensures { result ≡ record {
           once = once;
@@ -69,6 +73,7 @@ impl Verdict {
           changes = changes.items;
           unready = unready.items;
           members = members.items;
+          unknown = unknown.items;
         } }
     {
         Verdict {
@@ -79,7 +84,15 @@ impl Verdict {
             changes,
             unready,
             members,
+            unknown,
         }
+    }
+
+    /// What is told of the names that no group has.
+    pub(crate) fn unknown(&self) -> &[UnknownName]
+        ensures { result.now ≡ self.now.unknown }
+    {
+        self.unknown.as_slice()
     }
 
     /// The least pair that uses a packet number twice under a key.
@@ -96,7 +109,7 @@ impl Verdict {
         self.one_key
     }
 
-    /// What is told of each key and sender, with how many of its fresh frames came late.
+    /// What is told of each key and sender, with which of its fresh frames came late.
     pub fn timed(&self) -> &[TimedUse]
         ensures { result.now ≡ self.now.timed }
     {
@@ -110,22 +123,26 @@ impl Verdict {
         self.members.as_slice()
     }
 
-    /// Whether a pair breaks.
-    pub fn is_refuted(&self) -> bool
-        ensures { result ≡ is_refuted self.now }
+    /// What breaks: a nonce that is shared comes before a key.
+    pub fn breach(&self) -> Option<Breach>
+        ensures { result ≡ breach self.now }
     {
-        self.once.is_some() || self.one_key.is_some()
+        match (self.once, self.one_key) {
+            (Some((first, second)), _) => Some(Breach::Nonce { first, second }),
+            (None, Some((first, second))) => Some(Breach::Key { first, second }),
+            (None, None) => None,
+        }
     }
 
     /// For what a capture is to blame of which this is judged, and of whose packets these are the counts.
-    /// With `strict` no protected frame is to be wrong or undecided.
+    /// With `strict` a protected frame is to be right, and none wrong or undecided.
     pub fn blame(&self, strict: bool, tally: &Tally) -> Blame
         ensures { result ≡ blame strict tally.now self.now }
     {
-        if self.is_refuted() {
-            return Blame::Refuted;
+        match self.breach() {
+            Some(breach) => Blame::Refuted(breach),
+            None => tally.doubt(strict),
         }
-        tally.doubt(strict)
     }
 
     /// Appends each key and sender, each change, and each member that was not ready for a key.

@@ -12,10 +12,10 @@ use Rattle.trace_text.specs.Kinds.{key_name, said, secret}
 use Rattle.trace_text.specs.Reading.{◌>>=◌, is_comment}
 use Rattle.trace_text.proofs.Public.{both_steps, said_fits, same_value}
 use Rattle.audit_text.specs.declared.line.KeyLine.{KeyLine}
-use Rattle.audit_text.specs.declared.line.KeyLine.TheVariants.{Group, Sak}
+use Rattle.audit_text.specs.declared.line.KeyLine.TheVariants.{Capture, Group, Sak}
 use Rattle.audit_text.specs.declared.line.Sender.{Sender}
 use Rattle.audit_text.specs.declared.line.Sender.TheVariants.{Any, One}
-use Rattle.audit_text.specs.Forms.{association, group_of, identifier, sak_of, sender_in}
+use Rattle.audit_text.specs.Forms.{association, capture_of, group_of, identifier, sak_of, sender_in}
 use Rattle.audit_text.specs.InForm.{IsFitSender, IsInFormKey}
 use Rattle.audit_text.specs.Reading.{key_line_of, key_line_of_words, key_line_in}
 
@@ -51,12 +51,18 @@ sak_fits (sender ∷ an ∷ key ∷ []) line e =
     (sender_fits sender p.0 p.1, said_fits association an q.0 q.1, said_fits secret key r.0 r.1)
 sak_fits (sender ∷ an ∷ key ∷ word ∷ words) line e = absurd cc
 
+capture_fits : (words : List (List ℕ)) (line : KeyLine) → capture_of words ≡ Ok line → IsInFormKey line
+capture_fits [] line e = subst IsInFormKey (same_value Capture line e) tt
+capture_fits (word ∷ words) line e = absurd cc
+
 -- a line by the tests of its first word
-tests_fit : (group sak : Bool) (words : List (List ℕ)) (line : KeyLine)
-    → (if group then group_of words else if sak then sak_of words else Err Word) ≡ Ok line → IsInFormKey line
-tests_fit true sak words line e = group_fits words line e
-tests_fit false true words line e = sak_fits words line e
-tests_fit false false words line e = absurd cc
+tests_fit : (group sak capture : Bool) (words : List (List ℕ)) (line : KeyLine)
+    → (if group then group_of words else if sak then sak_of words else if capture then capture_of words else Err Word) ≡ Ok line
+    → IsInFormKey line
+tests_fit true sak capture words line e = group_fits words line e
+tests_fit false true capture words line e = sak_fits words line e
+tests_fit false false true words line e = capture_fits words line e
+tests_fit false false false words line e = absurd cc
 
 abbrev line_or : KeyLine → Result (Option KeyLine) TextFault → KeyLine
 line_or d (Ok (Some line)) = line
@@ -74,7 +80,7 @@ comment_or false r line e = some_line r line e
 words_fit : (words : List (List ℕ)) (line : KeyLine) → key_line_of_words words ≡ Ok (Some line) → IsInFormKey line
 words_fit [] line e = absurd cc
 words_fit (first ∷ words) line e =
-    tests_fit (is_word first (codes "group")) (is_word first (codes "sak")) words line
+    tests_fit (is_word first (codes "group")) (is_word first (codes "sak")) (is_word first (codes "capture")) words line
     (comment_or (is_comment first) (key_line_of first words) line e)
 
 short_enough : (b : Bool) (r : Result (Option KeyLine) TextFault) (said : Option KeyLine) → (if b then Err TooLong else r) ≡ Ok said → r ≡ Ok said

@@ -1,119 +1,251 @@
 -- A text is parted into its key text and its capture in one way.
-use Rattle.std.proofs.Common.{◌≡◌, ◌≢◌, ℕ, Bool, true, false, List, [], ◌∷◌, ◌++◌, length, take, refl, sym, ap, ◌∙◌, subst, length-append, arith}
-use Rattle.std.specs.Prelude.{◌==◌, ◌&&◌, if◌then◌else◌}
-use Rattle.capture_packets.specs.Captures.{begins_file}
+use Rattle.std.proofs.Common.{◌≡◌, ◌≢◌, ℕ, ◌<◌, ◌≤◌, Bool, true, false, List, [], ◌∷◌, ◌++◌, length, refl, sym, ap, ◌∙◌, subst, append_assoc, length-append, arith, inl, inr}
+use Rattle.std.specs.Prelude.{◌==◌, ◌||◌, ◌⊎◌, if◌then◌else◌}
+use Rattle.std.proofs.lemmas.Bool.{cases_lt}
+use Rattle.std.proofs.lemmas.List.{append-nil, append_cancel_right}
 use Rattle.octet_supply.proofs.Public.{no-octets}
-use Rattle.audit_text.specs.Parting.{IsParted, begins, capture_behind, key_text, starts_behind}
+use Rattle.text_lines.specs.Texts.{open_line, without_return}
+use Rattle.audit_text.specs.Parting.{AreLines, IsParted, begins, capture_behind, key_text, says_capture, tells_capture}
+use Rattle.audit_text.proofs.Lines.{HasNoFeed, first-other, open-at, others, pushed}
+use Rattle.audit_text.proofs.FedLines.{ByLines, behind-line, by-lines, has-line, here, is-empty, is-last, none-behind, tells-line}
+
+-- ---- whole lines at the front
+
+-- whole lines in front of a text that begins with a line are none, or that line and others
+pub record IsBehind (octets keys front rest : List ℕ) : Type 0 where
+  pub lines : List ℕ
+  pub parts : front ≡ octets ++ 10 ∷ lines
+  pub whole : AreLines lines
+  pub later : keys ≡ lines ++ rest
+
+-- a line that is begun ends in what follows
+line-from : (begun octets keys front rest : List ℕ) → HasNoFeed octets → octets ++ 10 ∷ keys ≡ front ++ rest
+    → open_line begun front ≡ [] → ((begun ≡ []) × (front ≡ [])) ⊎ IsBehind octets keys front rest
+line-from begun octets keys [] rest none same at = inl (at, refl)
+line-from begun [] keys (x ∷ front) rest none same at =
+    let first : 10 ≡ x = cc same in
+    inr (record {
+      lines = front;
+      parts = ap (λ (o : ℕ). o ∷ front) (sym first);
+      whole = ap (λ (o : ℕ). if o == 10 then open_line [] front else open_line (begun ++ o ∷ []) front) first ∙ at;
+      later = cc same;
+    })
+line-from begun (o ∷ octets) keys (x ∷ front) rest none same at =
+    let first : o ≡ x = cc same in
+    let later : octets ++ 10 ∷ keys ≡ front ++ rest = cc same in
+    let on : open_line (begun ++ o ∷ []) front ≡ [] =
+    sym (ap (λ (b : Bool). if b then open_line [] front else open_line (begun ++ o ∷ []) front) (first-other o octets none))
+    ∙ ap (λ (p : ℕ). if p == 10 then open_line [] front else open_line (begun ++ p ∷ []) front) first ∙ at in
+    elim (line-from (begun ++ o ∷ []) octets keys front rest (others o octets none) later on) [
+      | inl empty ↦ absurd (pushed begun o empty.0)
+      | inr it ↦ inr (record {
+        lines = it.lines;
+        parts = ap (λ (p : ℕ). p ∷ front) (sym first) ∙ ap (λ (l : List ℕ). o ∷ l) it.parts;
+        whole = it.whole;
+        later = it.later;
+      })
+    ]
+
+-- octets without a line feed begin with no whole line
+none-from : (begun octets front rest : List ℕ) → HasNoFeed octets → octets ≡ front ++ rest
+    → open_line begun front ≡ [] → (begun ≡ []) × (front ≡ [])
+none-from begun octets [] rest none same at = (at, refl)
+none-from begun [] (x ∷ front) rest none same at = absurd (cc same)
+none-from begun (o ∷ octets) (x ∷ front) rest none same at =
+    let first : o ≡ x = cc same in
+    let later : octets ≡ front ++ rest = cc same in
+    let on : open_line (begun ++ o ∷ []) front ≡ [] =
+    sym (ap (λ (b : Bool). if b then open_line [] front else open_line (begun ++ o ∷ []) front) (first-other o octets none))
+    ∙ ap (λ (p : ℕ). if p == 10 then open_line [] front else open_line (begun ++ p ∷ []) front) first ∙ at in
+    absurd (pushed begun o (none-from (begun ++ o ∷ []) octets front rest (others o octets none) later on).0)
+
+pub no-line : (octets front rest : List ℕ) → HasNoFeed octets → octets ≡ front ++ rest → AreLines front → front ≡ []
+no-line octets front rest none same at = (none-from [] octets front rest none same at).1
 
 -- ---- the parts
 
-none-behind : (front rest : List ℕ) → [] ≡ front ++ rest → rest ≡ []
-none-behind front rest none =
+none-left : (front rest : List ℕ) → [] ≡ front ++ rest → rest ≡ []
+none-left front rest none =
     no-octets rest (let l = ap length none in let m = length-append front rest in omega (arith, l, m))
 
-both : (a b : Bool) → (a && b) ≡ true → (a ≡ true) × (b ≡ true)
-both true b is = (refl, is)
-both false b is = cc is
-
-second : (a b : Bool) → (a && b) ≡ false → a ≡ true → b ≡ false
-second true b is so = is
-second false b is so = cc so
-
-no-keys : (starts : Bool) (text : List ℕ) → (text ≢ [] → begins starts text ≡ true) → IsParted starts text [] text
-no-keys starts text is = record {
+no-keys : (text : List ℕ) → (text ≢ [] → begins text ≡ true) → IsParted text [] text
+no-keys text is = record {
   whole = refl;
-  begins = λ some. both starts (begins_file (take 4 text)) (is some);
-  none = λ front rest same some starts_here. absurd (some (none-behind front rest same));
+  none = λ front rest same some at. absurd (some (none-left front rest same));
+  ends = λ some. (refl, inl (is some));
 }
 
--- the first octet is of the key text
-one-key : (starts : Bool) (octet : ℕ) (octets keys capture : List ℕ) → begins starts (octet ∷ octets) ≡ false
-    → IsParted (octet == 10) octets keys capture → IsParted starts (octet ∷ octets) (octet ∷ keys) capture
-one-key starts octet octets keys capture not_here p = record {
-  whole = ap (λ (l : List ℕ). octet ∷ l) p.whole;
-  begins = p.begins;
-  none = λ front rest same some starts_here. by front rest same some starts_here;
+-- no capture begins with what follows
+before-none : (text front rest capture : List ℕ) → front ≡ [] → text ≡ front ++ rest → begins (text ++ capture) ≡ false
+    → (begins (rest ++ capture) ≡ false) × (tells_capture front ≡ false)
+before-none text front rest capture empty same is = (
+  ap (λ (l : List ℕ). begins ((l ++ rest) ++ capture)) (sym empty) ∙ ap (λ (l : List ℕ). begins (l ++ capture)) (sym same) ∙ is,
+  ap tells_capture empty,
+)
+
+no-capture : (octets : List ℕ) → HasNoFeed octets → begins octets ≡ false → IsParted octets octets []
+no-capture octets none is = record {
+  whole = sym (append-nil octets);
+  none = λ front rest same some at.
+      before-none octets front rest [] (no-line octets front rest none same at) same (ap begins (append-nil octets) ∙ is);
+  ends = λ some. absurd (some refl);
 }
-  where
-    by : (front rest : List ℕ) → octet ∷ keys ≡ front ++ rest → rest ≢ [] → starts_behind starts front ≡ true
-        → begins_file (take 4 (rest ++ capture)) ≡ false
-    by [] rest same some starts_here =
-        let all : rest ++ capture ≡ octet ∷ octets =
-        ap (λ (l : List ℕ). l ++ capture) (sym same) ∙ ap (λ (l : List ℕ). octet ∷ l) (sym p.whole) in
-        ap (λ (l : List ℕ). begins_file (take 4 l)) all
-        ∙ second starts (begins_file (take 4 (octet ∷ octets))) not_here starts_here
-    by (f ∷ front) rest same some starts_here =
-        let first : octet ≡ f = cc same in
-        let later : keys ≡ front ++ rest = cc same in
-        p.none front rest later some
-        (ap (λ (o : ℕ). starts_behind (o == 10) front) first ∙ starts_here)
 
-parted-by : (b starts : Bool) (octet : ℕ) (octets : List ℕ) → begins starts (octet ∷ octets) ≡ b
-    → IsParted (octet == 10) octets (key_text (octet == 10) octets) (capture_behind (octet == 10) octets)
-    → IsParted starts (octet ∷ octets) (if b then [] else octet ∷ key_text (octet == 10) octets)
-    (if b then octet ∷ octets else capture_behind (octet == 10) octets)
-parted-by true starts octet octets is p = no-keys starts (octet ∷ octets) (λ _. is)
-parted-by false starts octet octets is p =
-    one-key starts octet octets (key_text (octet == 10) octets) (capture_behind (octet == 10) octets) is p
+-- whether a capture is told in what a line begins
+tells-on : (octets later : List ℕ) (b c : Bool) → HasNoFeed octets → says_capture (without_return octets) ≡ b
+    → tells_capture later ≡ c → tells_capture (octets ++ 10 ∷ later) ≡ (b || c)
+tells-on octets later b c none says tells =
+    tells-line octets later none ∙ ap (λ (s : Bool). s || tells_capture later) says ∙ ap (λ (t : Bool). b || t) tells
 
-pub parted : (starts : Bool) (text : List ℕ) → IsParted starts text (key_text starts text) (capture_behind starts text)
-parted starts [] = no-keys starts [] (λ some. absurd (some refl))
-parted starts (octet ∷ octets) =
-    parted-by (begins starts (octet ∷ octets)) starts octet octets refl (parted (octet == 10) octets)
+-- the first line is of the key text
+one-line : (octets later keys capture : List ℕ) → HasNoFeed octets → begins (octets ++ 10 ∷ later) ≡ false
+    → says_capture (without_return octets) ≡ false → IsParted later keys capture
+    → IsParted (octets ++ 10 ∷ later) (octets ++ 10 ∷ keys) capture
+one-line octets later keys capture none is says p =
+    let all : octets ++ 10 ∷ later ≡ (octets ++ 10 ∷ keys) ++ capture =
+    ap (λ (l : List ℕ). octets ++ 10 ∷ l) p.whole ∙ sym (append_assoc octets (10 ∷ keys) capture) in
+    record {
+      whole = all;
+      none = λ front rest same some at. elim (line-from [] octets keys front rest none same at) [
+        | inl empty ↦ before-none (octets ++ 10 ∷ keys) front rest capture empty.1 same (sym (ap begins all) ∙ is)
+        | inr it ↦
+            let q = p.none it.lines rest it.later some it.whole in
+            (q.0, ap tells_capture it.parts ∙ tells-on octets it.lines false false none says q.1)
+      ];
+      ends = λ some.
+          let q = p.ends some in (
+            open-at [] octets keys none ∙ q.0,
+            elim q.1 [
+              | inl it ↦ inl it
+              | inr tells ↦ inr (tells-on octets keys false true none says tells)
+            ],
+          );
+    }
+
+-- and is its last
+capture-line : (octets later : List ℕ) → HasNoFeed octets → begins (octets ++ 10 ∷ later) ≡ false
+    → says_capture (without_return octets) ≡ true
+    → IsParted (octets ++ 10 ∷ later) (octets ++ 10 ∷ []) later
+capture-line octets later none is says =
+    let all : octets ++ 10 ∷ later ≡ (octets ++ 10 ∷ []) ++ later = sym (append_assoc octets (10 ∷ []) later) in
+    record {
+      whole = all;
+      none = λ front rest same some at. elim (line-from [] octets [] front rest none same at) [
+        | inl empty ↦ before-none (octets ++ 10 ∷ []) front rest later empty.1 same (sym (ap begins all) ∙ is)
+        | inr it ↦ absurd (some (none-left it.lines rest it.later))
+      ];
+      ends = λ some. (open-at [] octets [] none, inr (tells-on octets [] true false none says refl));
+    }
+
+-- these are the parts
+pub as-parted : (text keys capture : List ℕ) → key_text text ≡ keys → capture_behind text ≡ capture
+    → IsParted text keys capture → IsParted text (key_text text) (capture_behind text)
+as-parted text keys capture same also p =
+    subst (λ (k : List ℕ). IsParted text k (capture_behind text)) (sym same)
+    (subst (λ (c : List ℕ). IsParted text keys c) (sym also) p)
+
+parted-line : (b s : Bool) (octets later : List ℕ) → HasNoFeed octets → begins (octets ++ 10 ∷ later) ≡ b
+    → says_capture (without_return octets) ≡ s → IsParted later (key_text later) (capture_behind later)
+    → IsParted (octets ++ 10 ∷ later) (key_text (octets ++ 10 ∷ later)) (capture_behind (octets ++ 10 ∷ later))
+parted-line true s octets later none is says p =
+    let text = octets ++ 10 ∷ later in
+    let w = here text is in as-parted text [] text w.0 w.1 (no-keys text (λ some. is))
+parted-line false true octets later none is says p =
+    let text = octets ++ 10 ∷ later in
+    let w = behind-line octets later none is in
+    as-parted text (octets ++ 10 ∷ []) later
+    (w.0 ∙ ap (λ (b : Bool). (octets ++ 10 ∷ []) ++ (if b then [] else key_text later)) says ∙ append-nil (octets ++ 10 ∷ []))
+    (w.1 ∙ ap (λ (b : Bool). if b then later else capture_behind later) says)
+    (capture-line octets later none is says)
+parted-line false false octets later none is says p =
+    let text = octets ++ 10 ∷ later in
+    let w = behind-line octets later none is in
+    as-parted text (octets ++ 10 ∷ key_text later) (capture_behind later)
+    (w.0 ∙ ap (λ (b : Bool). (octets ++ 10 ∷ []) ++ (if b then [] else key_text later)) says
+    ∙ append_assoc octets (10 ∷ []) (key_text later))
+    (w.1 ∙ ap (λ (b : Bool). if b then later else capture_behind later) says)
+    (one-line octets later (key_text later) (capture_behind later) none is says p)
+
+parted-last : (b : Bool) (octets : List ℕ) → HasNoFeed octets → begins octets ≡ b
+    → IsParted octets (key_text octets) (capture_behind octets)
+parted-last true octets none is =
+    let w = here octets is in as-parted octets [] octets w.0 w.1 (no-keys octets (λ some. is))
+parted-last false octets none is =
+    let w = none-behind octets none is in as-parted octets octets [] w.0 w.1 (no-capture octets none is)
+
+parted-by : (text : List ℕ) → ByLines text → IsParted text (key_text text) (capture_behind text)
+parted-by _ is-empty = no-keys [] (λ some. absurd (some refl))
+parted-by _ (is-last octets some none) = parted-last (begins octets) octets none refl
+parted-by _ (has-line octets later none rest) =
+    parted-line (begins (octets ++ 10 ∷ later)) (says_capture (without_return octets)) octets later none refl refl
+    (parted-by later rest)
+
+pub parted : (text : List ℕ) → IsParted text (key_text text) (capture_behind text)
+parted text = parted-by text (by-lines text)
 
 -- ---- in one way
 
--- these are the parts
-abbrev Same : Bool → List ℕ → List ℕ → List ℕ → Type 0
-Same starts text keys capture = (keys ≡ key_text starts text) × (capture ≡ capture_behind starts text)
+-- of two fronts of a text the longer begins with the shorter
+pub record GoesOn (front whole left right : List ℕ) : Type 0 where
+  pub more : List ℕ
+  pub parts : whole ≡ front ++ more
+  pub rest : left ≡ more ++ right
 
-here : (starts : Bool) (octet : ℕ) (octets capture : List ℕ) → IsParted starts (octet ∷ octets) [] capture
-    → Same starts (octet ∷ octets) [] capture
-here starts octet octets capture p =
-    let all : capture ≡ octet ∷ octets = sym p.whole in
-    let begun = p.begins (λ none. cc (sym all ∙ none)) in
-    let first : begins_file (take 4 (octet ∷ octets)) ≡ true =
-    ap (λ (l : List ℕ). begins_file (take 4 l)) (sym all) ∙ begun.1 in
-    let is : begins starts (octet ∷ octets) ≡ true = rw (begun.0, first) refl in (
-      sym (ap (λ (b : Bool). if b then [] else octet ∷ key_text (octet == 10) octets) is),
-      all ∙ sym (ap (λ (b : Bool). if b then octet ∷ octets else capture_behind (octet == 10) octets) is),
-    )
+pub fronts : (front left whole right : List ℕ) → front ++ left ≡ whole ++ right → length front ≤ length whole
+    → GoesOn front whole left right
+fronts [] left whole right same less = record { more = whole; parts = refl; rest = same }
+fronts (x ∷ front) left [] right same less = absurd (omega (arith, less))
+fronts (x ∷ front) left (y ∷ whole) right same less =
+    let first : y ≡ x = sym (cc same) in
+    let g = fronts front left whole right (cc same) (omega (arith, less)) in
+    record {
+      more = g.more;
+      parts = ap (λ (o : ℕ). o ∷ whole) first ∙ ap (λ (l : List ℕ). x ∷ l) g.parts;
+      rest = g.rest;
+    }
 
--- no capture begins at the first octet of a key text
-not-here : (starts : Bool) (octet : ℕ) (octets keys capture : List ℕ)
-    → IsParted starts (octet ∷ octets) (octet ∷ keys) capture → begins starts (octet ∷ octets) ≡ false
-not-here true octet octets keys capture p =
-    ap (λ (l : List ℕ). begins_file (take 4 l)) p.whole
-    ∙ p.none [] (octet ∷ keys) refl (λ none. cc none) refl
-not-here false octet octets keys capture p = refl
+-- the keys of one parting go on behind those of no other
+pub no-shorter : (text keys capture also behind : List ℕ) → IsParted text keys capture
+    → ((front rest : List ℕ) → also ≡ front ++ rest → rest ≢ [] → AreLines front
+    → (begins (rest ++ behind) ≡ false) × (tells_capture front ≡ false))
+    → text ≡ also ++ behind → length keys < length also → ⊥
+no-shorter text keys capture also behind p none whole less =
+    let g = fronts keys capture also behind (sym p.whole ∙ whole) (omega (arith, less)) in
+    let some : g.more ≢ [] = λ empty.
+    let a = ap length g.parts in let b = ap length empty in let m = length-append keys g.more in
+    omega (arith, a, b, m, less) in
+    let e = p.ends (λ empty.
+    let a = ap length (sym g.rest ∙ empty) in let m = length-append g.more behind in
+    some (no-octets g.more (omega (arith, a, m)))) in
+    let n = none keys g.more g.parts some e.0 in
+    elim e.1 [
+      | inl is ↦ absurd (cc (sym is ∙ ap begins g.rest ∙ n.0))
+      | inr tells ↦ absurd (cc (sym tells ∙ n.1))
+    ]
 
-later : (starts : Bool) (octet : ℕ) (octets keys capture : List ℕ)
-    → IsParted starts (octet ∷ octets) (octet ∷ keys) capture → IsParted (octet == 10) octets keys capture
-later starts octet octets keys capture p = record {
-  whole = cc p.whole;
-  begins = p.begins;
-  none = λ front rest same some starts_here.
-      p.none (octet ∷ front) rest (ap (λ (l : List ℕ). octet ∷ l) same) some starts_here;
-}
+pub alone : (text keys capture also behind : List ℕ) → IsParted text keys capture → IsParted text also behind
+    → (keys ≡ also) × (capture ≡ behind)
+alone text keys capture also behind p q = elim (cases_lt (length keys) (length also)) [
+  | inl less ↦ absurd (no-shorter text keys capture also behind p q.none q.whole less)
+  | inr most ↦ elim (cases_lt (length also) (length keys)) [
+    | inl less ↦ absurd (no-shorter text also behind keys capture q p.none p.whole less)
+    | inr least ↦
+        let g = fronts keys capture also behind (sym p.whole ∙ q.whole) least in
+        let none : g.more ≡ [] =
+        no-octets g.more (let a = ap length g.parts in let m = length-append keys g.more in omega (arith, a, m, most)) in (
+          sym (g.parts ∙ ap (λ (l : List ℕ). keys ++ l) none ∙ append-nil keys),
+          g.rest ∙ ap (λ (l : List ℕ). l ++ behind) none,
+        )
+  ]
+]
 
-on : (starts : Bool) (octet : ℕ) (octets keys capture : List ℕ) → begins starts (octet ∷ octets) ≡ false
-    → Same (octet == 10) octets keys capture → Same starts (octet ∷ octets) (octet ∷ keys) capture
-on starts octet octets keys capture is same = (
-  ap (λ (l : List ℕ). octet ∷ l) same.0
-      ∙ sym (ap (λ (b : Bool). if b then [] else octet ∷ key_text (octet == 10) octets) is),
-  same.1 ∙ sym (ap (λ (b : Bool). if b then octet ∷ octets else capture_behind (octet == 10) octets) is),
-)
+pub parted-alone : (text keys capture : List ℕ) → IsParted text keys capture
+    → (keys ≡ key_text text) × (capture ≡ capture_behind text)
+parted-alone text keys capture p = alone text keys capture (key_text text) (capture_behind text) p (parted text)
 
-pub parted-alone : (starts : Bool) (text keys capture : List ℕ) → IsParted starts text keys capture
-    → Same starts text keys capture
-parted-alone starts [] keys capture p =
-    let l = ap length p.whole in
-    let m = length-append keys capture in
-    (no-octets keys (omega (arith, l, m)), no-octets capture (omega (arith, l, m)))
-parted-alone starts (octet ∷ octets) [] capture p = here starts octet octets capture p
-parted-alone starts (octet ∷ octets) (key ∷ keys) capture p =
-    let first : key ≡ octet = sym (cc p.whole) in
-    let q = subst (λ (k : ℕ). IsParted starts (octet ∷ octets) (k ∷ keys) capture) first p in
-    let s = on starts octet octets keys capture (not-here starts octet octets keys capture q)
-    (parted-alone (octet == 10) octets keys capture (later starts octet octets keys capture q)) in
-    (ap (λ (k : ℕ). k ∷ keys) first ∙ s.0, s.1)
+-- the key text is what stands before the capture
+pub keys-before : (text front later : List ℕ) → text ≡ front ++ later → capture_behind text ≡ later → key_text text ≡ front
+keys-before text front later whole capture =
+    let p = parted text in
+    append_cancel_right (key_text text) front later
+    (ap (λ (l : List ℕ). key_text text ++ l) (sym capture) ∙ sym p.whole ∙ whole)

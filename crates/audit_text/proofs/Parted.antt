@@ -1,10 +1,8 @@
 -- The key text is read line by line, up to the capture.
-use Rattle.std.proofs.Common.{◌≡◌, ◌≢◌, ℕ, ◌-◌, Bool, true, false, List, [], ◌∷◌, ◌++◌, length, take, Option, Ok, Err, refl, sym, ap, ◌∙◌, subst, append_assoc, length-append, arith, inl, inr, ◌≤◌, ◌⊎◌}
-use Rattle.std.specs.Prelude.{All, ◌==◌, if◌then◌else◌, min}
+use Rattle.std.proofs.Common.{◌≡◌, ℕ, ◌-◌, Bool, true, false, List, [], ◌∷◌, ◌++◌, length, take, Option, Ok, Err, sym, ap, ◌∙◌, subst, append_assoc, length-append, arith, inl, inr, ◌≤◌, ◌⊎◌}
+use Rattle.std.specs.Prelude.{if◌then◌else◌, min}
 use Rattle.std.proofs.lemmas.Bool.{cases_lt}
-use Rattle.std.proofs.lemmas.Bool.Decides.{nat_tests}
 use Rattle.std.proofs.lemmas.List.{take-append-le, take_all}
-use Rattle.std.proofs.lemmas.List.Elements.{All-head, All-tail}
 use Rattle.lan_base.specs.declared.source.ReadEnd.{ReadEnd}
 use Rattle.lan_base.specs.declared.source.ReadEnd.TheVariants.{Limit, Failed, Memory}
 use Rattle.capture_packets.specs.Captures.{begins_file}
@@ -14,62 +12,23 @@ use Rattle.octet_supply.specs.declared.supply.LineEnd.{LineEnd}
 use Rattle.octet_supply.specs.declared.supply.LineEnd.TheVariants.{Feed, Most, Source}
 use Rattle.octet_supply.proofs.Public.{take-behind, within, within-held}
 use Rattle.audit_text.specs.declared.parting.Part.TheVariants as parts
-use Rattle.audit_text.specs.Parting.{IsLast, IsLong, IsUnparted, Parts, begins, capture_behind, line_of}
-
--- ---- where the capture is
-
-pub here : (behind : List ℕ) → begins true behind ≡ true → (capture_behind true behind ≡ behind) × (behind ≢ [])
-here [] is = cc is
-here (o ∷ octets) is =
-    (ap (λ (b : Bool). if b then o ∷ octets else capture_behind (o == 10) octets) is, (λ none. cc none))
-
-pub not-feed : (octet : ℕ) → octet ≢ 10 → (octet == 10) ≡ false
-not-feed octet other = grind (arith, nat_tests)
-
--- within a line no capture begins
-on : (line later : List ℕ) → All (λ o. o ≢ 10) line
-    → capture_behind false (line ++ 10 ∷ later) ≡ capture_behind true later
-on [] later none = refl
-on (o ∷ line) later none =
-    ap (λ (b : Bool). capture_behind b (line ++ 10 ∷ later)) (not-feed o (All-head (λ (o : ℕ). o ≢ 10) o line none))
-    ∙ on line later (All-tail (λ (o : ℕ). o ≢ 10) o line none)
-
-pub behind-line : (line later : List ℕ) → All (λ o. o ≢ 10) line → begins true (line ++ 10 ∷ later) ≡ false
-    → capture_behind true (line ++ 10 ∷ later) ≡ capture_behind true later
-behind-line [] later none is =
-    ap (λ (b : Bool). if b then 10 ∷ later else capture_behind true later) is
-behind-line (o ∷ line) later none is =
-    ap (λ (b : Bool). if b then o ∷ (line ++ 10 ∷ later) else capture_behind (o == 10) (line ++ 10 ∷ later)) is
-    ∙ ap (λ (b : Bool). capture_behind b (line ++ 10 ∷ later)) (not-feed o (All-head (λ (o : ℕ). o ≢ 10) o line none))
-    ∙ on line later (All-tail (λ (o : ℕ). o ≢ 10) o line none)
-
-none-on : (line : List ℕ) → All (λ o. o ≢ 10) line → capture_behind false line ≡ []
-none-on [] none = refl
-none-on (o ∷ line) none =
-    ap (λ (b : Bool). capture_behind b line) (not-feed o (All-head (λ (o : ℕ). o ≢ 10) o line none))
-    ∙ none-on line (All-tail (λ (o : ℕ). o ≢ 10) o line none)
-
-pub none-behind : (line : List ℕ) → All (λ o. o ≢ 10) line → begins true line ≡ false → capture_behind true line ≡ []
-none-behind [] none is = refl
-none-behind (o ∷ line) none is =
-    ap (λ (b : Bool). if b then o ∷ line else capture_behind (o == 10) line) is
-    ∙ ap (λ (b : Bool). capture_behind b line) (not-feed o (All-head (λ (o : ℕ). o ≢ 10) o line none))
-    ∙ none-on line (All-tail (λ (o : ℕ). o ≢ 10) o line none)
+use Rattle.audit_text.specs.Parting.{IsLast, IsLong, IsUnparted, Parts, begins, capture_behind, line_of, says_capture}
+use Rattle.audit_text.proofs.FedLines.{behind-line, none-behind}
 
 -- ---- what is seen at the start of a line
 
 pub starts-is : (limit : ℕ) (text given behind held : List ℕ) (h : Held) (left : Option (List ℕ)) (n : ℕ) (b : Bool)
     → take limit text ≡ given ++ behind → Peeks limit text given 4 h left (Ok tt) → held ≡ h.octets
-    → n ≡ min (length held) 4 → begins_file (take n held) ≡ b → begins true behind ≡ b
+    → n ≡ min (length held) 4 → begins_file (take n held) ≡ b → begins behind ≡ b
 starts-is limit text given behind held h left n b visible p same least is =
     let s = sees limit text given behind 4 h left false (omega arith) visible p in
     ap begins_file (s.same ∙ ap (take 4) (sym same) ∙ sym (take-least 4 held) ∙ ap (λ (k : ℕ). take k held) (sym least))
     ∙ is
 
 pub parts-capture : (limit : ℕ) (text given behind line : List ℕ) (h : Held) (left : Option (List ℕ))
-    → Peeks limit text given 4 h left (Ok tt) → begins true behind ≡ true
+    → Peeks limit text given 4 h left (Ok tt) → begins behind ≡ true
     → Parts limit text given behind line h left (Ok parts.Capture)
-parts-capture limit text given behind line h left p is = let w = here behind is in (p.0, w.0, w.1)
+parts-capture limit text given behind line h left p is = (p.0, is)
 
 pub parts-peek : (limit : ℕ) (text given behind line : List ℕ) (h : Held) (left : Option (List ℕ)) (e : ReadEnd)
     → take limit text ≡ given ++ behind
@@ -94,7 +53,7 @@ seen-is limit text given behind h left visible (stands, inl many) =
 seen-is limit text given behind h left visible (stands, inr end) = inr end.1.within
 
 pub parts-line : (limit : ℕ) (text given behind line now : List ℕ) (new : Held) (left : Option (List ℕ)) (end : LineEnd)
-    → take limit text ≡ given ++ behind → begins true behind ≡ false
+    → take limit text ≡ given ++ behind → begins behind ≡ false
     → (4 ≤ length behind) ⊎ (length text ≤ limit)
     → TakesLine limit text given 4097 [] line new left (Ok end) → now ≡ line_of end line
     → Parts limit text given behind now new left (Ok (parts.Line end))
@@ -113,8 +72,8 @@ parts-line limit text given behind line now new left Feed visible is seen (l, sa
       within = inside;
       line_is = ended ∙ ap (line_of Feed) same;
       stands = stands;
-      capture = ap (capture_behind true) ahead
-          ∙ behind-line l a.ahead inside.none (sym (ap (begins true) ahead) ∙ is);
+      capture = ap capture_behind ahead ∙ (behind-line l a.ahead inside.none (sym (ap begins ahead) ∙ is)).1
+          ∙ ap (λ (o : List ℕ). if says_capture o then a.ahead else capture_behind a.ahead) (sym (ended ∙ ap (line_of Feed) same));
     }
 parts-line limit text given behind line now new left Most visible is seen (l, same, inside, (full, (octet, other, stands))) ended =
     let a = within limit text (given ++ (l ++ octet ∷ [])) new left stands in
@@ -139,11 +98,11 @@ parts-line limit text given behind line now new left Source visible is seen (l, 
       within = inside;
       few = w;
       end = end.end;
-      capture = ap (capture_behind true) all ∙ none-behind l inside.none (sym (ap (begins true) all) ∙ is);
+      capture = ap capture_behind all ∙ (none-behind l inside.none (sym (ap begins all) ∙ is)).1;
     })
 
 -- octets of a line that was broken off
-unparted : (behind l ahead : List ℕ) → behind ≡ l ++ ahead → begins true behind ≡ false → IsInLine 4097 l
+unparted : (behind l ahead : List ℕ) → behind ≡ l ++ ahead → begins behind ≡ false → IsInLine 4097 l
     → IsUnparted l
 unparted behind l ahead same is inside = elim (cases_lt (length l) 4) [
   | inl few ↦ inl few
@@ -153,14 +112,14 @@ unparted behind l ahead same is inside = elim (cases_lt (length l) 4) [
 ]
 
 pub parts-err : (limit : ℕ) (text given behind line into now : List ℕ) (middle new : Held) (left : Option (List ℕ)) (e : ReadEnd)
-    → take limit text ≡ given ++ behind → begins true behind ≡ false
+    → take limit text ≡ given ++ behind → begins behind ≡ false
     → TakesLine limit text given 4097 into line middle left (Err e)
     → Parts limit text given behind now new left (Err e)
 parts-err limit text given behind line into now middle new left Limit visible is (l, same, inside, (stands, past)) =
     let all = behind-same given behind l (sym visible ∙ past.front) in (
       past.longer,
       subst (λ (m : List ℕ). IsUnparted m) (sym all)
-          (inr (sym (ap (begins true) all) ∙ is, inside)),
+          (inr (sym (ap begins all) ∙ is, inside)),
     )
 parts-err limit text given behind line into now middle new left Failed visible is (l, same, inside, (stands, taken)) =
     let w = taken.within in

@@ -1,4 +1,6 @@
 -- What other crates may cite of the proofs.
+pub use Rattle.audit_text.proofs.Cutting.{cut-few, cut-to, none-front, unparted-none}
+pub use Rattle.audit_text.proofs.FedLines.{behind-line, here}
 pub use Rattle.audit_text.proofs.InForm.{key_read_fits}
-pub use Rattle.audit_text.proofs.KeyText.{parted}
-pub use Rattle.audit_text.proofs.Parted.{behind-line, here, none-behind, not-feed}
+pub use Rattle.audit_text.proofs.KeyText.{keys-before, no-shorter, parted, fronts, no-line}
+pub use Rattle.audit_text.proofs.Lines.{BeginsLong, HasNoFeed, begins-long, line-alone, line-first, lines-append, open-behind}

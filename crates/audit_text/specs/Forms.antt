@@ -7,7 +7,7 @@ use Rattle.trace_text.specs.Kinds.{Kind, exactly, key_name, number, said, secret
 use Rattle.trace_text.specs.Reading.{◌>>=◌}
 use Rattle.trace_text.specs.Words.{is_word}
 use Rattle.audit_text.specs.declared.line.KeyLine.{KeyLine}
-use Rattle.audit_text.specs.declared.line.KeyLine.TheVariants.{Group, Sak}
+use Rattle.audit_text.specs.declared.line.KeyLine.TheVariants.{Capture, Group, Sak}
 use Rattle.audit_text.specs.declared.line.Sender.{Sender}
 use Rattle.audit_text.specs.declared.line.Sender.TheVariants.{Any, One}
 
@@ -41,3 +41,8 @@ sak_of (sender ∷ an ∷ key ∷ []) = do
   k ← said secret key
   Ok (Sak s a k)
 sak_of words = Err Count
+
+-- behind `capture`: nothing
+abbrev pub capture_of : List (List ℕ) → Result KeyLine TextFault
+capture_of [] = Ok Capture
+capture_of words = Err Count

@@ -1,4 +1,4 @@
--- What a reader reads: the words of the two forms, and what a line says.
+-- What a reader reads: the words of the three forms, what a line says, and where the lines end.
 pub mod Forms
 pub mod Reading
 pub mod InForm

@@ -1,49 +1,89 @@
--- Where the key text ends and the capture begins: at the first start of a line where the next four octets
--- are one of the five magic numbers (this profile's own rule).
-use Rattle.std.specs.Prelude.{⊤, ◌≡◌, ◌≢◌, ◌⊎◌, ℕ, ◌<◌, ◌≤◌, ◌==◌, ◌&&◌, Bool, false, true, if◌then◌else◌, List, [], ◌∷◌, ◌++◌, length, take, Option, Some, Result, Ok, Err}
+-- Where the key text ends and the capture begins (this profile's own rule): at the first start of a line
+-- where the next four octets are one of the five magic numbers, or behind the first line that says
+-- `capture`, whichever comes first in the text.
+use Rattle.std.specs.Prelude.{⊤, ◌≡◌, ◌≢◌, ◌⊎◌, ℕ, ◌<◌, ◌≤◌, ◌==◌, Bool, false, true, if◌then◌else◌, List, [], ◌∷◌, ◌++◌, length, take, Option, Some, Result, Ok, Err}
+use Rattle.std.specs.List.{concat, list_any}
 use Rattle.lan_base.specs.declared.source.ReadEnd.{ReadEnd}
 use Rattle.lan_base.specs.declared.source.ReadEnd.TheVariants.{Limit, Failed, Memory}
 use Rattle.capture_packets.specs.Captures.{begins_file}
-use Rattle.text_lines.specs.Texts.{without_return}
+use Rattle.text_lines.specs.Texts.{lines_of, open_line, without_return}
 use Rattle.octet_supply.specs.Supplying.{Held, IsInLine, IsTaken, Stands}
 use Rattle.octet_supply.specs.declared.supply.LineEnd.{LineEnd}
 use Rattle.octet_supply.specs.declared.supply.LineEnd.TheVariants.{Feed, Most, Source}
+use Rattle.trace_text.specs.declared.fault.TextFault.{TextFault}
+use Rattle.audit_text.specs.declared.line.KeyLine.{KeyLine}
+use Rattle.audit_text.specs.declared.line.KeyLine.TheVariants.{Capture}
 use Rattle.audit_text.specs.declared.parting.Part.{Part}
 use Rattle.audit_text.specs.declared.parting.Part.TheVariants as parts
+use Rattle.audit_text.specs.Reading.{key_line_in}
 
--- a capture begins here, if a line starts here
-abbrev pub begins : Bool → List ℕ → Bool
-begins starts octets = starts && begins_file (take 4 octets)
+-- a capture begins with these octets: with a magic number
+abbrev pub begins : List ℕ → Bool
+begins octets = begins_file (take 4 octets)
 
--- the key text that octets begin with, where a line may start
-abbrev pub key_text : Bool → List ℕ → List ℕ
-key_text starts [] = []
-key_text starts (octet ∷ octets) =
-    if begins starts (octet ∷ octets) then [] else octet ∷ key_text (octet == 10) octets
+abbrev pub is_capture : Result (Option KeyLine) TextFault → Bool
+is_capture (Ok (Some Capture)) = true
+is_capture read = false
+
+-- a line, without its ending, says `capture`
+abbrev pub says_capture : List ℕ → Bool
+says_capture line = is_capture (key_line_in line)
+
+-- one of the lines of octets says `capture`
+abbrev pub tells_capture : List ℕ → Bool
+tells_capture octets = list_any says_capture (lines_of octets)
+
+-- ---- line by line of a text
+
+abbrev pub in_front : ℕ → List (List ℕ) → List (List ℕ)
+in_front octet [] = (octet ∷ []) ∷ []
+in_front octet (line ∷ lines) = (octet ∷ line) ∷ lines
+
+-- the lines of a text with their line feeds, of which the last may have none
+abbrev pub fed_lines : List ℕ → List (List ℕ)
+fed_lines [] = []
+fed_lines (octet ∷ octets) =
+    if octet == 10 then (octet ∷ []) ∷ fed_lines octets else in_front octet (fed_lines octets)
+
+-- the key text of such lines
+abbrev pub keys_of : List (List ℕ) → List ℕ
+keys_of [] = []
+keys_of (line ∷ lines) =
+    if begins (concat (line ∷ lines)) then []
+    else line ++ (if tells_capture line then [] else keys_of lines)
 
 -- the capture behind it
-abbrev pub capture_behind : Bool → List ℕ → List ℕ
-capture_behind starts [] = []
-capture_behind starts (octet ∷ octets) =
-    if begins starts (octet ∷ octets) then octet ∷ octets else capture_behind (octet == 10) octets
+abbrev pub behind_keys : List (List ℕ) → List ℕ
+behind_keys [] = []
+behind_keys (line ∷ lines) =
+    if begins (concat (line ∷ lines)) then concat (line ∷ lines)
+    else if tells_capture line then concat lines
+    else behind_keys lines
+
+-- the key text that a text begins with
+abbrev pub key_text : List ℕ → List ℕ
+key_text text = keys_of (fed_lines text)
+
+-- the capture in a text
+abbrev pub capture_behind : List ℕ → List ℕ
+capture_behind text = behind_keys (fed_lines text)
 
 -- ---- what that is of a text
 
--- whether a line starts behind octets, where one starts before them, or not
-abbrev pub starts_behind : Bool → List ℕ → Bool
-starts_behind starts [] = starts
-starts_behind starts (octet ∷ octets) = starts_behind (octet == 10) octets
+-- octets are whole lines: behind the last line feed there are none
+abbrev pub AreLines : List ℕ → Type 0
+AreLines octets = open_line [] octets ≡ []
 
--- A text, at whose first octet a line may start, is a key text and a capture behind it: the capture begins
--- at the start of a line, with a magic number, if there is one, and at no start of a line before it does a
--- capture begin.
-pub record IsParted (starts : Bool) (text keys capture : List ℕ) : Type 0 where
+-- A text is a key text and a capture behind it: at no start of a line of the keys does a capture begin
+-- with a magic number, and no line of theirs but the last says `capture`; and a capture that has octets
+-- stands behind whole lines, and begins with a magic number, or behind a line that says `capture`.
+pub record IsParted (text keys capture : List ℕ) : Type 0 where
   pub whole : text ≡ keys ++ capture
-  pub begins : capture ≢ [] → (starts_behind starts keys ≡ true) × (begins_file (take 4 capture) ≡ true)
-  pub none : (front rest : List ℕ) → keys ≡ front ++ rest → rest ≢ [] → starts_behind starts front ≡ true
-      → begins_file (take 4 (rest ++ capture)) ≡ false
+  pub none : (front rest : List ℕ) → keys ≡ front ++ rest → rest ≢ [] → AreLines front
+      → (begins (rest ++ capture) ≡ false) × (tells_capture front ≡ false)
+  pub ends : capture ≢ [] → AreLines keys × ((begins capture ≡ true) ⊎ (tells_capture keys ≡ true))
 
--- ---- line by line
+-- ---- line by line of a source
 
 -- at most so many octets are taken of a line: those that it may have, and a carriage return
 abbrev pub most_taken : ℕ
@@ -55,11 +95,11 @@ line_of Feed octets = without_return octets
 line_of Most octets = octets
 line_of Source octets = octets
 
--- A line ends with its line feed, behind which the capture is the same: no capture begins with the line,
--- and none would where the text goes on past the limit.
+-- A line ends with its line feed, behind which the capture begins if the line says so, and else is the
+-- same: no capture begins with the line, and none would where the text goes on past the limit.
 pub record IsLine (limit : ℕ) (text given behind line : List ℕ) (new : Held)
     (left : Option (List ℕ)) : Type 0 where
-  pub none : begins true behind ≡ false
+  pub none : begins behind ≡ false
   pub seen : (4 ≤ length behind) ⊎ (length text ≤ limit)
   pub octets : List ℕ
   pub later : List ℕ
@@ -67,11 +107,11 @@ pub record IsLine (limit : ℕ) (text given behind line : List ℕ) (new : Held)
   pub within : IsInLine most_taken octets
   pub line_is : line ≡ line_of Feed octets
   pub stands : Stands limit text (given ++ (octets ++ 10 ∷ [])) new left
-  pub capture : capture_behind true behind ≡ capture_behind true later
+  pub capture : capture_behind behind ≡ (if says_capture line then later else capture_behind later)
 
 -- a line has more octets than are taken of one, and no capture begins with it
 pub record IsLong (behind line : List ℕ) : Type 0 where
-  pub none : begins true behind ≡ false
+  pub none : begins behind ≡ false
   pub octet : ℕ
   pub later : List ℕ
   pub parts : behind ≡ line ++ octet ∷ later
@@ -79,25 +119,25 @@ pub record IsLong (behind line : List ℕ) : Type 0 where
   pub within : IsInLine most_taken line
   pub full : length line ≡ most_taken
 
--- the last line has no line feed, and there is no capture
+-- the last line has no line feed, and there is no octet of a capture
 pub record IsLast (limit : ℕ) (text behind line : List ℕ) (left : Option (List ℕ)) : Type 0 where
   pub all : behind ≡ line
   pub within : IsInLine most_taken line
   pub few : length text ≤ limit
   pub end : left ≡ Some []
-  pub capture : capture_behind true behind ≡ []
+  pub capture : capture_behind behind ≡ []
 
 -- octets from the start of a line on tell neither that a capture begins there nor where the line ends:
 -- they are fewer than a magic number has, or a front of a line, which begins with none
 abbrev pub IsUnparted : List ℕ → Type 0
 IsUnparted octets =
-    (length octets < 4) ⊎ ((begins true octets ≡ false) × IsInLine most_taken octets)
+    (length octets < 4) ⊎ ((begins octets ≡ false) × IsInLine most_taken octets)
 
 -- what reading on at the start of a line did, where a text goes on with these octets
 abbrev pub Parts : ℕ → List ℕ → List ℕ → List ℕ → List ℕ → Held → Option (List ℕ)
     → Result Part ReadEnd → Type 0
 Parts limit text given behind line new left (Ok parts.Capture) =
-    Stands limit text given new left × (capture_behind true behind ≡ behind) × (behind ≢ [])
+    Stands limit text given new left × (begins behind ≡ true)
 Parts limit text given behind line new left (Ok (parts.Line Feed)) =
     IsLine limit text given behind line new left
 Parts limit text given behind line new left (Ok (parts.Line Most)) = IsLong behind line

@@ -7,13 +7,14 @@ use Rattle.trace_text.specs.Limits.{most_line}
 use Rattle.trace_text.specs.Words.{words_of, is_word}
 use Rattle.trace_text.specs.Reading.{is_comment, fault_in}
 use Rattle.audit_text.specs.declared.line.KeyLine.{KeyLine}
-use Rattle.audit_text.specs.Forms.{group_of, sak_of}
+use Rattle.audit_text.specs.Forms.{capture_of, group_of, sak_of}
 
 -- the line of a first word, and the words behind it
 abbrev pub key_line_of : List ℕ → List (List ℕ) → Result KeyLine TextFault
 key_line_of first words =
     if is_word first (codes "group") then group_of words
     else if is_word first (codes "sak") then sak_of words
+    else if is_word first (codes "capture") then capture_of words
     else Err Word
 
 -- what words say: nothing where there are none, or in a comment

@@ -4,15 +4,15 @@
 ghost use Rattle.std.specs.Prelude.{◌≡◌};
 ghost use Rattle.trace_text.specs.Answering.{Answers};
 ghost use Rattle.trace_text.specs.Words.{words_of};
-ghost use Rattle.audit_text.specs.Forms.{group_of, sak_of, sender_in};
+ghost use Rattle.audit_text.specs.Forms.{capture_of, group_of, sak_of, sender_in};
 ghost use Rattle.audit_text.specs.Reading.{key_line_of};
 
 use crate::line::{KeyLine, Sender};
 use lan_base::{CKN_MAX, Sci};
 use std::alloc::Global;
 use trace_text::{
-    LineError, TextFault, decoded, expect_key, expect_octets, read_array, read_number, three_words,
-    two_words,
+    LineError, TextFault, decoded, expect_key, expect_octets, next_word, read_array, read_number,
+    three_words, two_words,
 };
 
 /// The line that a first word and the words behind it say.
@@ -24,6 +24,9 @@ pub fn read_key_form(alloc: Global, first: &[u8], rest: &[u8]) -> Result<KeyLine
     }
     if first == b"sak".as_slice() {
         return sak(alloc, rest);
+    }
+    if first == b"capture".as_slice() {
+        return capture(rest);
     }
     Err(LineError::Refused(TextFault::Word))
 }
@@ -61,4 +64,14 @@ fn read_sender(word: &[u8]) -> Result<Sender, TextFault>
     }
     let sci = read_array(word)?;
     Ok(Sender::One(Sci(sci)))
+}
+
+/// `capture`.
+fn capture(rest: &[u8]) -> Result<KeyLine, LineError>
+    ensures { Answers result (capture_of (words_of rest.now)) }
+{
+    match next_word(rest) {
+        None => Ok(KeyLine::Capture),
+        Some(_) => Err(LineError::Refused(TextFault::Count)),
+    }
 }

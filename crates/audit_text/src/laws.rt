@@ -1,6 +1,6 @@
 //! Laws of the key text.
 
-ghost use Rattle.std.specs.Prelude.{◌≡◌, ◌⊎◌, ℕ, List, Option, Ok, Some, true};
+ghost use Rattle.std.specs.Prelude.{◌≡◌, ◌⊎◌, ℕ, List, Option, Ok, Some};
 ghost use Rattle.trace_text.specs.declared.fault.TextFault.{TextFault};
 ghost use Rattle.audit_text.specs.Parting.{IsParted, capture_behind, key_text};
 ghost use Rattle.audit_text.specs.Reading.{key_line_in, first_key_fault};
@@ -16,7 +16,7 @@ pub fn law_read_or_refused()
 /// so the keys that a judge uses are not hidden in the capture, nor packets in the keys.
 pub fn law_parted()
     ensures parts { (text : List ℕ)
-        → IsParted true text (key_text true text) (capture_behind true text) }
-    ensures alone { (text keys capture : List ℕ) → IsParted true text keys capture
-        → (keys ≡ key_text true text) × (capture ≡ capture_behind true text) }
+        → IsParted text (key_text text) (capture_behind text) }
+    ensures alone { (text keys capture : List ℕ) → IsParted text keys capture
+        → (keys ≡ key_text text) × (capture ≡ capture_behind text) }
 {}

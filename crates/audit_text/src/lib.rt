@@ -1,4 +1,4 @@
-//! The key text before a capture, line by line: where it ends, and what each of its two lines says.
+//! The key text before a capture, line by line: where it ends, and what each of its three lines says.
 #![tactic(auto)]
 
 mod forms;

@@ -25,4 +25,6 @@ pub enum KeyLine {
         an: u32,
         sak: Octets,
     },
+    /// `capture`: the key text ends, and the capture begins behind this line.
+    Capture,
 }

@@ -12,6 +12,7 @@ use Rattle.packet_verdicts.specs.declared.kind.Kind.{Kind}
 use Rattle.packet_verdicts.specs.declared.kind.Kind.TheVariants as kinds
 use Rattle.packet_verdicts.specs.Frames.{frame_of}
 use Rattle.packet_verdicts.specs.Kinds.{packet_kind}
+use Rattle.capture_audit.specs.declared.asks.Asks.{Asks}
 use Rattle.capture_audit.specs.declared.auditor.Auditor.{Auditor}
 use Rattle.capture_audit.specs.declared.batch.Batch.{Batch}
 use Rattle.capture_audit.specs.declared.batch.Waiting.{Waiting}
@@ -39,22 +40,22 @@ alone-found ring before p head kind frame judged gives = record {
   tried = alone-tried ring before p kind gives;
 }
 
-pub alone-begun : (shows : Bool) (ring : Ring) (before : List Unwrapped) (p : Seen) (head : PacketHead) (kind : Kind)
+pub alone-begun : (asks : Asks) (ring : Ring) (before : List Unwrapped) (p : Seen) (head : PacketHead) (kind : Kind)
     (frame : List ℕ) (a : Auditor) (line : List ℕ) → IsJudged ring p head kind frame → Keeps ring before a
-    → line ≡ begun_part shows (a.tally.all + 1) (begun_words frame kind)
-    → line ≡ begun_part shows (number_behind before) (begun_words (frame_of p.octets) (packet_kind ring.groups p))
-alone-begun shows ring before p head kind frame a line judged keeps is =
-    is ∙ ap (λ n. begun_part shows n (begun_words frame kind))
+    → line ≡ begun_part asks.shows (a.tally.all + 1) (begun_words frame kind)
+    → line ≡ begun_part asks.shows (number_behind before) (begun_words (frame_of p.octets) (packet_kind ring.groups p))
+alone-begun asks ring before p head kind frame a line judged keeps is =
+    is ∙ ap (λ n. begun_part asks.shows n (begun_words frame kind))
     (ap (λ (t : Tally). t.all + 1) keeps.tally ∙ ap (λ n. n + 1) (told-length ring before))
-    ∙ ap (λ (k : Kind). begun_part shows (number_behind before) (begun_words frame k)) judged.kind_is
-    ∙ ap (λ (f : List ℕ). begun_part shows (number_behind before) (begun_words f (packet_kind ring.groups p))) judged.frame_is
+    ∙ ap (λ (k : Kind). begun_part asks.shows (number_behind before) (begun_words frame k)) judged.kind_is
+    ∙ ap (λ (f : List ℕ). begun_part asks.shows (number_behind before) (begun_words f (packet_kind ring.groups p))) judged.frame_is
 
-module _ (shows : Bool) (ring : Ring) (before : List Unwrapped) (p : Seen) (written : List ℕ) (a : Auditor) (b : Batch)
-    (stands : StandsAt shows ring before [] written a b) where
+module _ (asks : Asks) (ring : Ring) (before : List Unwrapped) (p : Seen) (written : List ℕ) (a : Auditor) (b : Batch)
+    (stands : StandsAt asks ring before [] written a b) where
   pub alone-stops : (end : AuditEnd) (a_then : Auditor) (b_then : Batch) (text_then : List ℕ) (held : Option (List ℕ))
       → b_then.text.items ≡ text_then
-      → Tells b.shows ring before p a a_then b.text.items text_then (Err end)
-      → SettlesAlone shows ring before p written held held a_then b_then (Err end)
+      → Tells b.asks ring before p a a_then b.text.items text_then (Err end)
+      → SettlesAlone asks ring before p written held held a_then b_then (Err end)
   alone-stops ends.KeyLimit a_then b_then text_then held same is =
       let old = is.0.same in
       record {
@@ -68,49 +69,49 @@ module _ (shows : Bool) (ring : Ring) (before : List Unwrapped) (p : Seen) (writ
         full = record { gift = is.0.gift; unwrapped = is.0.unwrapped; many = is.0.many; same = refl };
       }
   alone-stops ends.Memory a_then b_then text_then held same is =
-      none-written shows ring before (p ∷ []) written held a b [] [] stands
+      none-written asks ring before (p ∷ []) written held a b [] [] stands
   alone-stops _ a_then b_then text_then held same is = absurd is
 
-  pub alone-memory : (held : Option (List ℕ)) → IsPartWritten shows ring before (p ∷ []) written held held
-  alone-memory held = none-written shows ring before (p ∷ []) written held a b [] [] stands
+  pub alone-memory : (held : Option (List ℕ)) → IsPartWritten asks ring before (p ∷ []) written held held
+  alone-memory held = none-written asks ring before (p ∷ []) written held a b [] [] stands
 
-  none-waiting : (ws : List Waiting) → AreWaiting shows ring (entries ring before) (answers (entries ring before) b.trials.items) (number_behind before) [] ws
+  none-waiting : (ws : List Waiting) → AreWaiting asks ring (entries ring before) (answers (entries ring before) b.trials.items) (number_behind before) [] ws
       → ws ≡ []
   none-waiting [] are = refl
   none-waiting (w ∷ ws) are = absurd are
 
   pub alone-writes : (a_then : Auditor) (b_then : Batch) (text_then : List ℕ) (held then : Option (List ℕ))
-      (r : Result (Unit {0}) AuditEnd) → IsTold b.shows ring before p a_then b.text.items text_then
-      → Writes text_then held then r → b_then.shows ≡ b.shows → b_then.waiting.items ≡ b.waiting.items
+      (r : Result (Unit {0}) AuditEnd) → IsTold b.asks ring before p a_then b.text.items text_then
+      → Writes text_then held then r → b_then.asks ≡ b.asks → b_then.waiting.items ≡ b.waiting.items
       → OnOk r (b_then.text.items ≡ [])
-      → SettlesAlone shows ring before p written held then a_then b_then r
+      → SettlesAlone asks ring before p written held then a_then b_then r
   alone-writes a_then b_then text_then held then r told =
-      elim r as (λ (r : Result (Unit {0}) AuditEnd). Writes text_then held then r → b_then.shows ≡ b.shows → b_then.waiting.items ≡ b.waiting.items
+      elim r as (λ (r : Result (Unit {0}) AuditEnd). Writes text_then held then r → b_then.asks ≡ b.asks → b_then.waiting.items ≡ b.waiting.items
       → OnOk r (b_then.text.items ≡ [])
-      → SettlesAlone shows ring before p written held then a_then b_then r) [
-        | Ok done ↦ λ writes shows_too same empty. record {
+      → SettlesAlone asks ring before p written held then a_then b_then r) [
+        | Ok done ↦ λ writes asks_too same empty. record {
           now = told.now;
           all = told.all;
           more = text_then;
           written_is = writes;
           stands = record {
             keeps = told.keeps;
-            shows_are = shows_too ∙ stands.shows_are;
-            waits = subst (λ (ws : List Waiting). AreWaiting shows ring (entries ring told.now) (answers (entries ring told.now) b_then.trials.items) (number_behind told.now) [] ws)
+            asks_are = asks_too ∙ stands.asks_are;
+            waits = subst (λ (ws : List Waiting). AreWaiting asks ring (entries ring told.now) (answers (entries ring told.now) b_then.trials.items) (number_behind told.now) [] ws)
                 (sym (same ∙ none-waiting b.waiting.items stands.waits)) tt;
             lines = ap (λ (xs : List ℕ). (written ++ text_then) ++ xs) empty ∙ append-nil (written ++ text_then) ∙ so;
           };
           empty = empty;
         }
-        | Err end ↦ λ writes shows_too same empty. on-err end writes
+        | Err end ↦ λ writes asks_too same empty. on-err end writes
       ]
     where
-      so : written ++ text_then ≡ told_lines shows ring told.now
-      so = subst (λ (s : Bool). written ++ text_then ≡ told_lines s ring told.now) stands.shows_are
-          (told.lines written (subst (λ (s : Bool). written ++ b.text.items ≡ told_lines s ring before) (sym stands.shows_are) stands.lines))
+      so : written ++ text_then ≡ told_lines asks ring told.now
+      so = subst (λ (s : Asks). written ++ text_then ≡ told_lines s ring told.now) stands.asks_are
+          (told.lines written (subst (λ (s : Asks). written ++ b.text.items ≡ told_lines s ring before) (sym stands.asks_are) stands.lines))
 
       part : (more : List ℕ) × (rest : List ℕ) × (0 < length rest) × (more ++ rest ≡ text_then) × (then ≡ after held more)
-          → IsPartWritten shows ring before (p ∷ []) written held then
+          → IsPartWritten asks ring before (p ∷ []) written held then
       part it = record {
         now = told.now;
         later = [];
@@ -123,7 +124,7 @@ module _ (shows : Bool) (ring : Ring) (before : List Unwrapped) (p : Seen) (writ
       }
 
       on-err : (end : AuditEnd) → Writes text_then held then (Err end)
-          → SettlesAlone shows ring before p written held then a_then b_then (Err end)
+          → SettlesAlone asks ring before p written held then a_then b_then (Err end)
       on-err ends.WriteFault it = part it
       on-err ends.Memory it = part it
       on-err _ it = absurd it

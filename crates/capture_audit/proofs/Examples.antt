@@ -8,6 +8,9 @@ use Rattle.gcm_frames.specs.Tags.{implied_fields}
 use Rattle.mkpdu_codec.specs.Reading.{parts_at, reading}
 use Rattle.std.specs.Fmt.{digits}
 use Rattle.audit_facts.specs.Noted.{events}
+use Rattle.audit_report.specs.declared.blame.Blame.TheVariants as blames
+use Rattle.audit_report.specs.declared.blame.Breach.TheVariants.{Nonce}
+use Rattle.audit_report.specs.declared.ending.Ending.TheVariants as endings
 use Rattle.audit_report.specs.declared.finding.Finding.TheVariants as findings
 use Rattle.audit_text.specs.Reading.{key_line_in}
 use Rattle.capture_packets.specs.declared.fault.CaptureFault.TheVariants.{Cut}
@@ -18,7 +21,7 @@ use Rattle.capture_audit.specs.declared.end.AuditEnd.TheVariants as ends
 use Rattle.capture_audit.specs.Before.{Unwrapped, entries, frames, mkpdus}
 use Rattle.capture_audit.specs.Findings.{finding}
 use Rattle.capture_audit.specs.declared.asks.Asks.{Asks}
-use Rattle.capture_audit.specs.Ends.{EndsAudit, IsPartReported}
+use Rattle.capture_audit.specs.Ends.{EndsAudit, IsPartReported, end_of}
 use Rattle.capture_audit.specs.Reading.{AreFirst, in_order}
 use Rattle.capture_audit.specs.Telling.{noted, told_lines}
 
@@ -96,19 +99,25 @@ unfolding implied_fields
 no_events = refl
 
 each_noted : noted no_ring (of_octets 15 user ∷ foreign ∷ [])
-    ≡ record { finding = findings.Other; nanos = 7; said = None }
-    ∷ record { finding = findings.Foreign; nanos = 5; said = None } ∷ []
+    ≡ record { finding = findings.Other; nanos = 7; said = None; unknown = None }
+    ∷ record { finding = findings.Foreign; nanos = 5; said = None; unknown = None } ∷ []
 unfolding reading parts_at
 each_noted = refl
 
 -- ---- lines
 
-lines : told_lines true no_ring (of_octets 15 user ∷ foreign ∷ [])
+abbrev strict : Asks
+strict = record { shows = true; strict = true; keys = true }
+
+abbrev nothing : Asks
+nothing = record { shows = false; strict = false; keys = false }
+
+lines : told_lines strict no_ring (of_octets 15 user ∷ foreign ∷ [])
     ≡ (codes "packet 1 foreign" ++ 10 ∷ []) ++ (codes "packet 2 other" ++ 10 ∷ [])
 unfolding reading parts_at implied_fields digits
 lines = refl
 
-few_lines : told_lines false no_ring (of_octets 15 user ∷ foreign ∷ []) ≡ []
+few_lines : told_lines nothing no_ring (of_octets 15 user ∷ foreign ∷ []) ≡ []
 unfolding reading parts_at implied_fields digits
 few_lines = refl
 
@@ -118,8 +127,13 @@ few_lines = refl
 oldest_first : in_order (of_octets 15 user ∷ foreign ∷ []) ≡ foreign.packet ∷ (of_octets 15 user).packet ∷ []
 oldest_first = refl
 
-abbrev strict : Asks
-strict = record { shows = true; strict = true }
+-- packets 6 and 24 share a nonce, and the source failed behind them
+refuted_before_a_fault : end_of (blames.Refuted (Nonce 6 24)) endings.Fault ≡ Err (ends.Refuted (Nonce 6 24))
+refuted_before_a_fault = refl
+
+-- no frame is right, and the last record is cut
+not_judged_before_a_cut : end_of blames.NotJudged (endings.Octet 24 Cut) ≡ Err ends.NotJudged
+not_judged_before_a_cut = refl
 
 -- without an octet there is no capture, which is refused at its octet 0
 no_octet : EndsAudit strict [] (Some []) (Rose 0 0) (Some (1 ∷ [])) (Some (1 ∷ [])) (Err (ends.Refused 0 Cut))
@@ -129,7 +143,7 @@ no_octet = inl ((refl, refl, λ cut. omega arith), refl)
 no_packet : AreFirst [] []
 no_packet = ([], refl)
 
-no_part : IsPartReported true [] (Some []) (Some (1 ∷ [])) (Some (1 ∷ []))
+no_part : IsPartReported strict [] (Some []) (Some (1 ∷ [])) (Some (1 ∷ []))
 no_part = inl (record {
   ring = no_ring;
   packets = [];

@@ -27,6 +27,7 @@ use Rattle.packet_verdicts.specs.Given.{shown_keys}
 use Rattle.use_notes.specs.declared.frame.RightFrame.{RightFrame}
 use Rattle.use_notes.specs.Frames.{same_check}
 use Rattle.use_notes.specs.Once.{BreaksOnce, Number, noted, number_of}
+use Rattle.capture_audit.specs.declared.asks.Asks.{Asks}
 use Rattle.capture_audit.specs.Before.{Unwrapped, entries, entries_by, frame_by, frames, gift_entries, kind_in, mkpdu_entries, number_behind, right_frame, right_key, right_under, set_behind, shown_entries, with_some}
 use Rattle.capture_audit.specs.Findings.{finding}
 use Rattle.capture_audit.specs.Telling.{IsVerdict, all_told}
@@ -34,15 +35,15 @@ use Rattle.capture_audit.proofs.Behind.{mkpdu-behind}
 
 -- ---- lines
 
-pub told-front : (shows : Bool) (ring : Ring) (later earlier : List Unwrapped)
-    → (more : List ℕ) × (packet_lines shows (all_told ring (later ++ earlier)) ≡ packet_lines shows (all_told ring earlier) ++ more)
-told-front shows ring [] earlier = ([], sym (append-nil (packet_lines shows (all_told ring earlier))))
-told-front shows ring (u ∷ later) earlier =
-    let before = told-front shows ring later earlier in
-    let mine = finding_lines shows (length (all_told ring (later ++ earlier)) + 1)
+pub told-front : (asks : Asks) (ring : Ring) (later earlier : List Unwrapped)
+    → (more : List ℕ) × (packet_lines asks.shows asks.keys (all_told ring (later ++ earlier)) ≡ packet_lines asks.shows asks.keys (all_told ring earlier) ++ more)
+told-front asks ring [] earlier = ([], sym (append-nil (packet_lines asks.shows asks.keys (all_told ring earlier))))
+told-front asks ring (u ∷ later) earlier =
+    let before = told-front asks ring later earlier in
+    let mine = finding_lines asks.shows asks.keys (length (all_told ring (later ++ earlier)) + 1)
     (begun_words (frame_of u.packet.octets) (kind_in ring u)) (finding ring (later ++ earlier) u) in (
       before.0 ++ mine,
-      ap (λ (xs : List ℕ). xs ++ mine) before.1 ∙ append_assoc (packet_lines shows (all_told ring earlier)) before.0 mine,
+      ap (λ (xs : List ℕ). xs ++ mine) before.1 ∙ append_assoc (packet_lines asks.shows asks.keys (all_told ring earlier)) before.0 mine,
     )
 
 -- ---- right frames
@@ -138,7 +139,7 @@ pub by-within : (end n nanos : ℕ) (gift : Option Gift) (k : Kind) (told : List
     → IsWithin end (entries_by n nanos gift k ++ told)
 by-within end n nanos gift (kinds.Mka (mkas.Right group s)) told most is =
     mkpdu-within end n nanos group (shown_keys s.announcement.uses) gift told most is
-by-within end n nanos gift (kinds.Mka (mkas.Unknown sci gives)) told most is = is
+by-within end n nanos gift (kinds.Mka (mkas.Unknown ckn sci gives)) told most is = is
 by-within end n nanos gift _ told most is = is
 
 set-within : (end : ℕ) (told : List Entry) (hand : List HandKey) → IsWithin end told → IsWithin end (set_behind told hand)
@@ -169,7 +170,7 @@ by-behind end n nanos gift (kinds.Mka (mkas.Right group s)) told most is =
     (shown-behind end n nanos group shown.old (shown_entries n nanos group shown.latest ++ (gift_entries n nanos group gift ++ told))
     (shown-behind end n nanos group shown.latest (gift_entries n nanos group gift ++ told)
     (gift-behind end n nanos group gift told most is)))
-by-behind end n nanos gift (kinds.Mka (mkas.Unknown sci gives)) told most is = is
+by-behind end n nanos gift (kinds.Mka (mkas.Unknown ckn sci gives)) told most is = is
 by-behind end n nanos gift _ told most is = is
 
 -- what the later packets tell

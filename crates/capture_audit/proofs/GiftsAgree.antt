@@ -10,7 +10,7 @@ use Rattle.key_wrap.specs.Wrap.{wrapped}
 use Rattle.lan_base.specs.declared.address.Mi.{Mi}
 use Rattle.mkpdu_codec.specs.declared.given.Given.{Given}
 use Rattle.mkpdu_codec.specs.declared.wrapped_key.WrappedKey.{WrappedKey}
-use Rattle.mkpdu_codec.specs.declared.wrapped_key.WrappedKey.TheVariants.{Aes128, Aes256, Other}
+use Rattle.mkpdu_codec.specs.declared.wrapped_key.WrappedKey.TheVariants.{Aes128, Aes256, Xpn128, Xpn256, Other}
 use Rattle.packet_verdicts.specs.declared.given.Gift.{Gift}
 use Rattle.packet_verdicts.specs.declared.given.NoSak.{NoSak}
 use Rattle.packet_verdicts.specs.declared.given.NoSak.TheVariants.{OtherSuite, WrongWrap}
@@ -42,6 +42,8 @@ saks-agree law kek (Aes256 octets) (Ok (S256 x)) (Err WrongWrap) key is other =
 saks-agree law kek (Aes256 octets) (Err WrongWrap) (Ok (S256 y)) key is other =
     absurd (is y other.0 other.1)
 saks-agree law kek (Aes256 octets) (Err WrongWrap) (Err WrongWrap) key is other = refl
+saks-agree law kek (Xpn256 octets) (Err OtherSuite) (Err OtherSuite) key is other = refl
+saks-agree law kek (Xpn128 octets) (Err OtherSuite) (Err OtherSuite) key is other = refl
 saks-agree law kek Other (Err OtherSuite) (Err OtherSuite) key is other = refl
 saks-agree law kek (Aes128 octets) (Ok (S256 x)) b key is other = absurd is
 saks-agree law kek (Aes128 octets) (Err OtherSuite) b key is other = absurd is
@@ -55,6 +57,14 @@ saks-agree law kek (Aes256 octets) (Ok (S256 x)) (Ok (S128 y)) key is other = ab
 saks-agree law kek (Aes256 octets) (Ok (S256 x)) (Err OtherSuite) key is other = absurd other
 saks-agree law kek (Aes256 octets) (Err WrongWrap) (Ok (S128 y)) key is other = absurd other
 saks-agree law kek (Aes256 octets) (Err WrongWrap) (Err OtherSuite) key is other = absurd other
+saks-agree law kek (Xpn128 octets) (Ok x) b key is other = absurd is
+saks-agree law kek (Xpn128 octets) (Err WrongWrap) b key is other = absurd is
+saks-agree law kek (Xpn128 octets) (Err OtherSuite) (Ok y) key is other = absurd other
+saks-agree law kek (Xpn128 octets) (Err OtherSuite) (Err WrongWrap) key is other = absurd other
+saks-agree law kek (Xpn256 octets) (Ok x) b key is other = absurd is
+saks-agree law kek (Xpn256 octets) (Err WrongWrap) b key is other = absurd is
+saks-agree law kek (Xpn256 octets) (Err OtherSuite) (Ok y) key is other = absurd other
+saks-agree law kek (Xpn256 octets) (Err OtherSuite) (Err WrongWrap) key is other = absurd other
 saks-agree law kek Other (Ok x) b key is other = absurd is
 saks-agree law kek Other (Err WrongWrap) b key is other = absurd is
 saks-agree law kek Other (Err OtherSuite) (Ok y) key is other = absurd other
@@ -95,7 +105,7 @@ gifts-agree law groups a b (kinds.Mka (mkas.Right group s)) keyed (keys, at, is)
     (subst (λ (k : GroupKeys). GivesBy k.kek s.announcement.mi s.announcement.given b) same other)
 gifts-agree law groups a b (kinds.Mka mkas.Cut) keyed is other = is ∙ sym other
 gifts-agree law groups a b (kinds.Mka (mkas.Dropped why)) keyed is other = is ∙ sym other
-gifts-agree law groups a b (kinds.Mka (mkas.Unknown sci gives)) keyed is other = is ∙ sym other
+gifts-agree law groups a b (kinds.Mka (mkas.Unknown ckn sci gives)) keyed is other = is ∙ sym other
 gifts-agree law groups a b (kinds.Mka (mkas.Wrong gives)) keyed is other = is ∙ sym other
 gifts-agree law groups a b (kinds.Sec sec) keyed is other = is ∙ sym other
 gifts-agree law groups a b kinds.Foreign keyed is other = is ∙ sym other

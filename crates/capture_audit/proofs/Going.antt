@@ -13,6 +13,7 @@ use Rattle.capture_packets.specs.declared.reader.PacketReader.{PacketReader}
 use Rattle.key_ring.specs.Reading.{file_in}
 use Rattle.key_ring.specs.Rings.{Ring}
 use Rattle.lan_base.specs.Told.{after}
+use Rattle.capture_audit.specs.declared.asks.Asks.{Asks}
 use Rattle.capture_audit.specs.declared.auditor.Auditor.{Auditor}
 use Rattle.capture_audit.specs.declared.batch.Batch.{Batch}
 use Rattle.capture_audit.specs.declared.end.AuditEnd.{AuditEnd}
@@ -82,16 +83,16 @@ module _ (text : List ℕ) (reader new : PacketReader) (left left_then : Option 
 
 -- ---- a packet is read, and taken
 
-module _ (shows : Bool) (ring : Ring) (told held : Option (List ℕ)) (reader new : PacketReader)
+module _ (asks : Asks) (ring : Ring) (told held : Option (List ℕ)) (reader new : PacketReader)
     (left left_then now then : Option (List ℕ)) (a : Auditor) (b : Batch)
-    (at : IsAuditing shows ring told held reader left now a b) where
+    (at : IsAuditing asks ring told held reader left now a b) where
   pub are-first : (text : List ℕ) → told ≡ Some text → AreFirst text at.before
   are-first text e =
       let front = reading-front text reader left (in_order at.before ++ at.waiting) (at.reading text e) in
       (at.waiting ++ front.0, front.1 ∙ append_assoc (in_order at.before) at.waiting front.0)
 
   -- nothing more is written
-  pub nothing-more : IsPartTold shows ring told held now
+  pub nothing-more : IsPartTold asks ring told held now
   nothing-more = record {
     packets = at.before;
     unwrapped = at.stands.keeps.unwrapped;
@@ -108,10 +109,10 @@ module _ (shows : Bool) (ring : Ring) (told held : Option (List ℕ)) (reader ne
       is ∙ ap (λ (o : Option (List ℕ)). after o more) at.written_is ∙ after-both held at.written more
 
   -- a part of the lines of packets, of which these are the first
-  part-told : (packets : List Seen) → IsPartWritten shows ring at.before packets at.written now then
+  part-told : (packets : List Seen) → IsPartWritten asks ring at.before packets at.written now then
       → ((text : List ℕ) → told ≡ Some text
       → (later : List Seen) × ((capture (file_in text)).packets ≡ (in_order at.before ++ packets) ++ later))
-      → IsPartTold shows ring told held then
+      → IsPartTold asks ring told held then
   part-told packets part first = record {
     packets = part.now;
     unwrapped = part.unwrapped;
@@ -137,8 +138,8 @@ module _ (shows : Bool) (ring : Ring) (told held : Option (List ℕ)) (reader ne
 
   taken : (packet : Packet) (a_then : Auditor) (b_then : Batch) (r : Result (Unit {0}) AuditEnd)
       → Reads reader new left left_then packet (Ok true)
-      → Takes shows ring at.before at.waiting (seen packet) at.written now then a_then b_then r
-      → ReadsOne shows ring told held new left_then then a_then b_then (limit_of r)
+      → Takes asks ring at.before at.waiting (seen packet) at.written now then a_then b_then r
+      → ReadsOne asks ring told held new left_then then a_then b_then (limit_of r)
   taken packet a_then b_then (Ok done) is it = record {
     before = it.now;
     waiting = it.waiting;
@@ -178,8 +179,8 @@ module _ (shows : Bool) (ring : Ring) (told held : Option (List ℕ)) (reader ne
 
   pub take-one : (packet : Packet) (a_then : Auditor) (b_then : Batch) (r : Result Bool FileEnd) (t : Result (Unit {0}) AuditEnd)
       → Reads reader new left left_then packet r → ending_of r ≡ Ok None
-      → Takes shows ring at.before at.waiting (seen packet) at.written now then a_then b_then t
-      → ReadsOne shows ring told held new left_then then a_then b_then (limit_of t)
+      → Takes asks ring at.before at.waiting (seen packet) at.written now then a_then b_then t
+      → ReadsOne asks ring told held new left_then then a_then b_then (limit_of t)
   take-one packet a_then b_then r t is none it =
       taken packet a_then b_then t
       (subst (λ (r : Result Bool FileEnd). Reads reader new left left_then packet r) (is-read r none) is) it
@@ -188,8 +189,8 @@ module _ (shows : Bool) (ring : Ring) (told held : Option (List ℕ)) (reader ne
 
   pub settle-all : (packet : Packet) (a_then : Auditor) (b_then : Batch) (r : Result Bool FileEnd) (ending : Ending)
       → Reads reader new left left_then packet r → ending_of r ≡ Ok (Some ending)
-      → IsSettledUp shows ring at.before at.waiting at.written now then a_then b_then
-      → HasRead shows ring told held ending left_then then a_then b_then
+      → IsSettledUp asks ring at.before at.waiting at.written now then a_then b_then
+      → HasRead asks ring told held ending left_then then a_then b_then
   settle-all packet a_then b_then r ending is none it = record {
     packets = it.now;
     written = at.written ++ it.more;
@@ -208,8 +209,8 @@ module _ (shows : Bool) (ring : Ring) (told held : Option (List ℕ)) (reader ne
   }
 
   pub settle-stops : (new_then : PacketReader) (a_then : Auditor) (b_then : Batch) (end : AuditEnd)
-      → SettlesUp shows ring at.before at.waiting at.written now then a_then b_then (Err end)
-      → ReadsOne shows ring told held new_then left_then then a_then b_then (Err end)
+      → SettlesUp asks ring at.before at.waiting at.written now then a_then b_then (Err end)
+      → ReadsOne asks ring told held new_then left_then then a_then b_then (Err end)
   settle-stops new_then a_then b_then ends.WriteFault it =
       part-told at.waiting it (λ text e. reading-front text reader left _ (at.reading text e))
   settle-stops new_then a_then b_then ends.Memory it =
@@ -218,15 +219,15 @@ module _ (shows : Bool) (ring : Ring) (told held : Option (List ℕ)) (reader ne
 
   -- there was no memory
   pub not-read : (new_then : PacketReader) (a_then : Auditor) (b_then : Batch) (r : Result Bool FileEnd) (end : AuditEnd)
-      → ending_of r ≡ Err end → ReadsOne shows ring told held new_then left_then now a_then b_then (Err end)
+      → ending_of r ≡ Err end → ReadsOne asks ring told held new_then left_then now a_then b_then (Err end)
   not-read new_then a_then b_then r end is =
-      subst (λ (x : AuditEnd). ReadsOne shows ring told held new_then left_then now a_then b_then (Err x))
+      subst (λ (x : AuditEnd). ReadsOne asks ring told held new_then left_then now a_then b_then (Err x))
       (sym (only-memory r end is)) nothing-more
 
 -- reading up to there stopped
-pub reads-stop : (shows : Bool) (ring : Ring) (told held : Option (List ℕ)) (reader : PacketReader) (left then : Option (List ℕ))
-    (a : Auditor) (b : Batch) (end : AuditEnd) → ReadsOne shows ring told held reader left then a b (Err end)
-    → ReadsUp shows ring told held left then a b (Err end)
-reads-stop shows ring told held reader left then a b ends.WriteFault is = is
-reads-stop shows ring told held reader left then a b ends.Memory is = is
-reads-stop shows ring told held reader left then a b _ is = absurd is
+pub reads-stop : (asks : Asks) (ring : Ring) (told held : Option (List ℕ)) (reader : PacketReader) (left then : Option (List ℕ))
+    (a : Auditor) (b : Batch) (end : AuditEnd) → ReadsOne asks ring told held reader left then a b (Err end)
+    → ReadsUp asks ring told held left then a b (Err end)
+reads-stop asks ring told held reader left then a b ends.WriteFault is = is
+reads-stop asks ring told held reader left then a b ends.Memory is = is
+reads-stop asks ring told held reader left then a b _ is = absurd is

@@ -1,20 +1,22 @@
 -- How reading ends where the head of a capture is not read.
-use Rattle.std.proofs.Common.{◌≡◌, ℕ, ◌-◌, ◌≤◌, true, List, ◌++◌, length, take, Option, None, Result, Ok, Err, refl, sym, ap, ◌∙◌, append_assoc, inl, inr}
+use Rattle.std.proofs.Common.{◌≡◌, ℕ, ◌-◌, ◌≤◌, true, List, ◌++◌, length, take, Option, None, Result, Ok, Err, refl, sym, ap, ◌∙◌, append_assoc, arith, inl, inr, ◌<◌}
+use Rattle.std.specs.Prelude.{nat_lt}
 use Rattle.std.proofs.lemmas.Bool.{cases_lt}
-use Rattle.std.proofs.lemmas.List.{append_cancel_left}
+use Rattle.std.proofs.lemmas.Bool.Decides.{nat_tests}
+use Rattle.std.proofs.lemmas.List.{append_cancel_left, take_all}
 use Rattle.lan_base.specs.Ranges.{most_input}
 use Rattle.octet_supply.proofs.Public.{take-behind}
 use Rattle.text_lines.specs.declared.reading.End.TheVariants as ends
 use Rattle.capture_packets.specs.declared.fault.CaptureFault.{CaptureFault}
 use Rattle.capture_packets.specs.declared.fault.CaptureFault.TheVariants.{Cut}
-use Rattle.capture_packets.specs.Captures.{Step, opened}
+use Rattle.capture_packets.specs.Captures.{Step, head_in, opened, opened_with}
 use Rattle.capture_packets.specs.Reading.{IsWithinHead, Opens}
 use Rattle.capture_packets.proofs.Public.{unopened}
 use Rattle.audit_text.specs.Parting.{capture_behind}
+use Rattle.audit_text.proofs.Public.{cut-few, cut-to}
 use Rattle.key_ring.specs.Reading.{ReadsRing, file_in}
 use Rattle.key_ring.specs.Rings.{Ring}
 use Rattle.capture_audit.specs.Reading.{IsHeadFailed, IsHeadPast, IsHeadRefused}
-use Rattle.capture_audit.proofs.Cutting.{cut-none, cut-to}
 
 -- ---- in the key text
 
@@ -62,19 +64,27 @@ unread-by : (file more c octets : List ℕ) → file ≡ more ++ c → IsWithinH
 unread-by file more c octets parts within same (Err why) is = (why, ap opened same ∙ is)
 unread-by file more c octets parts within same (Ok s) is = absurd (unopened file more c s parts within is)
 
+-- of fewer octets than four the head is cut
+few-cut : (octets : List ℕ) → length octets < 4 → opened octets ≡ Err Cut
+few-cut octets few =
+    let all : take 24 octets ≡ octets = take_all 24 octets (omega (arith, few)) in
+    let test : nat_lt (length octets) 4 ≡ true = grind (arith, nat_tests) in
+    ap (λ (head : List ℕ). opened_with octets (head_in head)) all ∙ rw test refl
+
 pub head-failed : (text given : List ℕ) (left : Option (List ℕ)) → take most_input text ≡ given ++ file_in text
     → Opens most_input text given (file_in text) left (Err ends.ReadFault) → IsHeadFailed text left
 head-failed text given left visible (more, is, within) =
     let file = file_in text in
     let c = take (most_input - length (given ++ more)) is.rest in
     let parts = taken-front most_input text given file more is.rest visible is.whole is.within in
-    let all : capture_behind true (given ++ (more ++ c)) ≡ more ++ c =
-    ap (capture_behind true) (ap (λ (l : List ℕ). given ++ l) (sym parts) ∙ sym visible) ∙ parts in
-    let unread : (why : CaptureFault) × (opened (capture_behind true (given ++ more)) ≡ Err why) =
+    let all : capture_behind (given ++ (more ++ c)) ≡ more ++ c =
+    ap capture_behind (ap (λ (l : List ℕ). given ++ l) (sym parts) ∙ sym visible) ∙ parts in
+    let unread : (why : CaptureFault) × (opened (capture_behind (given ++ more)) ≡ Err why) =
     elim (cases_lt (length more) 4) [
-      | inl few ↦ (Cut, ap opened (cut-none true given more c few all))
+      | inl few ↦
+          let most = cut-few given more c all in (Cut, few-cut (capture_behind (given ++ more)) (omega (arith, most, few)))
       | inr many ↦
-          unread-by file more c (capture_behind true (given ++ more)) parts within (cut-to true given more c many all)
+          unread-by file more c (capture_behind (given ++ more)) parts within (cut-to given more c many all)
           (opened more) refl
     ] in
     record {

@@ -255,7 +255,7 @@ by-alike : (n nanos then time : ℕ) (gift : Option Gift) (k : Kind) (one two : 
     → Alike (entries_by n nanos gift k ++ one) (entries_by then time gift k ++ two)
 by-alike n nanos then time gift (kinds.Mka (mkas.Right group s)) one two is =
     mkpdu-alike n nanos then time group (shown_keys s.announcement.uses) gift one two (gift-alike n nanos then time group gift one two is)
-by-alike n nanos then time gift (kinds.Mka (mkas.Unknown sci gives)) one two is = record { keys_are = is.keys_are; told = is.told }
+by-alike n nanos then time gift (kinds.Mka (mkas.Unknown ckn sci gives)) one two is = record { keys_are = is.keys_are; told = is.told }
 by-alike n nanos then time gift _ one two is = is
 
 or-twice : (a b : Bool) → (a || (a || b)) ≡ (a || b)
@@ -325,7 +325,7 @@ by-twice : (n nanos then time : ℕ) (gift : Option Gift) (k : Kind) (told : Lis
     → Alike (entries_by n nanos gift k ++ told) (entries_by then time gift k ++ (entries_by n nanos gift k ++ told))
 by-twice n nanos then time gift (kinds.Mka (mkas.Right group s)) told =
     mkpdu-twice n nanos then time group (shown_keys s.announcement.uses) gift told
-by-twice n nanos then time gift (kinds.Mka (mkas.Unknown sci gives)) told = record { keys_are = refl; told = λ who an k. refl }
+by-twice n nanos then time gift (kinds.Mka (mkas.Unknown ckn sci gives)) told = record { keys_are = refl; told = λ who an k. refl }
 by-twice n nanos then time gift (kinds.Mka mkas.Cut) told = alike-itself told
 by-twice n nanos then time gift (kinds.Mka (mkas.Dropped refusal)) told = alike-itself told
 by-twice n nanos then time gift (kinds.Mka (mkas.Wrong gives)) told = alike-itself told
@@ -403,7 +403,7 @@ by-here last nanos then time gift (kinds.Mka (mkas.Right group s)) one two is sa
     given-mkpdu then time group shown gift two then
     ∙ gift-here last nanos then time group gift one two is same
     ∙ sym (given-mkpdu last nanos group shown gift one last)
-by-here last nanos then time gift (kinds.Mka (mkas.Unknown sci gives)) one two is same = same
+by-here last nanos then time gift (kinds.Mka (mkas.Unknown ckn sci gives)) one two is same = same
 by-here last nanos then time gift _ one two is same = same
 
 given-moved : (n last nanos then time : ℕ) (gift : Option Gift) (k : Kind) (one two : List Entry) → n < last → then ≡ last + 1

@@ -52,6 +52,7 @@ judged pair = record {
   changes = [];
   unready = [];
   members = [];
+  unknown = [];
 }
 
 -- ---- the least pair is named
@@ -85,6 +86,7 @@ first_judged = record {
   changes = no_changes;
   unready = no_unready;
   members = no_members;
+  unknown = refl;
 }
 
 -- no pair is named of packets none of which breaks
@@ -98,17 +100,20 @@ none_passed ring packets is broken = is.once 1 2 broken
 
 -- ---- a front is told first
 
-front_lines : told_lines true no_ring (foreign ∷ []) ≡ codes "packet 1 foreign" ++ 10 ∷ []
+abbrev strict : Asks
+strict = record { shows = true; strict = true; keys = true }
+
+front_lines : told_lines strict no_ring (foreign ∷ []) ≡ codes "packet 1 foreign" ++ 10 ∷ []
 unfolding digits
 front_lines = refl
 
-whole_lines : told_lines true no_ring (foreign ∷ foreign ∷ [])
+whole_lines : told_lines strict no_ring (foreign ∷ foreign ∷ [])
     ≡ (codes "packet 1 foreign" ++ 10 ∷ []) ++ (codes "packet 2 foreign" ++ 10 ∷ [])
 unfolding digits
 whole_lines = refl
 
 -- no whole tells nothing of its front
-no_front : (more : List ℕ) → [] ≡ told_lines true no_ring (foreign ∷ []) ++ more → ⊥
+no_front : (more : List ℕ) → [] ≡ told_lines strict no_ring (foreign ∷ []) ++ more → ⊥
 no_front more e = absurd (cc e)
 
 -- none takes back what was broken
@@ -129,11 +134,11 @@ none-left : (front rest : List ℕ) → [] ≡ front ++ rest → rest ≡ []
 none-left [] rest e = sym e
 none-left (octet ∷ front) rest e = absurd (cc e)
 
-parted : (file : List ℕ) → begins_file (take 4 file) ≡ true → IsParted true file [] file
+parted : (file : List ℕ) → begins_file (take 4 file) ≡ true → IsParted file [] file
 parted file begins = record {
   whole = refl;
-  begins = λ some. (refl, begins);
   none = λ front rest e some at. absurd (some (none-left front rest e));
+  ends = λ some. (refl, inl begins);
 }
 
 classic_of : IsFileOf [] classic
@@ -163,18 +168,16 @@ none_judged = record {
   changes = no_changes;
   unready = no_unready;
   members = no_members;
+  unknown = refl;
 }
 
 abbrev told : List ℕ
-told = report true no_ring [] (judged None) Whole
+told = report strict no_ring [] (judged None) Whole
 
 no_unwrapped : All (IsUnwrapped no_ring) []
 no_unwrapped = All-nil (IsUnwrapped no_ring)
 
-abbrev strict : Asks
-strict = record { shows = true; strict = true }
-
-classic_reported : IsReported strict classic (Some []) Whole blames.None (Some []) (Some told)
+classic_reported : IsReported strict classic (Some []) Whole blames.NotJudged (Some []) (Some told)
 classic_reported = record {
   ring = no_ring;
   packets = [];
@@ -200,16 +203,16 @@ whole-blocks : IsWhole blocks []
 whole-blocks = (blocks_few, refl)
 
 -- nothing else is reported of the same in the other format
-blocks_alike : IsOneKeyForOneWrap → (then : Option (List ℕ)) → IsReported strict blocks (Some []) Whole blames.None (Some []) then
+blocks_alike : IsOneKeyForOneWrap → (then : Option (List ℕ)) → IsReported strict blocks (Some []) Whole blames.NotJudged (Some []) then
     → Some told ≡ then
 blocks_alike law then is =
     (one-report law strict [] classic blocks refl (λ ring said. keyed ring (cc said)) whole-classic whole-blocks Whole Whole
-    (λ e. absurd (cc e)) (λ e. absurd (cc e)) (Some []) (Some []) (Some []) (Some told) then blames.None blames.None classic_reported is).2
+    (λ e. absurd (cc e)) (λ e. absurd (cc e)) (Some []) (Some []) (Some []) (Some told) then blames.NotJudged blames.NotJudged classic_reported is).2
   where
     keyed : (ring : Ring) → no_ring ≡ ring → AreKeyed ring
     keyed ring same = subst AreKeyed same (All-nil (λ g. IsKey g.kek))
 
-nothing_refused : IsOneKeyForOneWrap → IsReported strict blocks (Some []) Whole blames.None (Some []) (Some []) → ⊥
+nothing_refused : IsOneKeyForOneWrap → IsReported strict blocks (Some []) Whole blames.NotJudged (Some []) (Some []) → ⊥
 unfolding digits
 nothing_refused law is = absurd (cc (blocks_alike law (Some []) is))
 
@@ -227,6 +230,7 @@ twice_judged = record {
   changes = no_changes;
   unready = no_unready;
   members = no_members;
+  unknown = refl;
 }
 
 -- in the midst of others
@@ -239,6 +243,7 @@ midst_judged = record {
   changes = no_changes;
   unready = no_unready;
   members = no_members;
+  unknown = refl;
 }
 
 -- a pair of the packet and one behind it, which is counted further
@@ -257,9 +262,9 @@ strange = record { ckn = 1 ∷ []; kek = 2 ∷ []; ick = 3 ∷ [] }
 foreign_names_none : IsOfOther strange foreign
 foreign_names_none s ethernet e = absurd (cc ethernet)
 
-told_with : told_lines true (with_group no_ring strange) (foreign ∷ []) ≡ told_lines true no_ring (foreign ∷ [])
+told_with : told_lines strict (with_group no_ring strange) (foreign ∷ []) ≡ told_lines strict no_ring (foreign ∷ [])
 told_with = refl
 
 -- no line of another packet appears
-not_told_with : told_lines true (with_group no_ring strange) (foreign ∷ []) ≡ [] → ⊥
+not_told_with : told_lines strict (with_group no_ring strange) (foreign ∷ []) ≡ [] → ⊥
 not_told_with e = absurd (cc e)

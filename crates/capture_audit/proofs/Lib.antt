@@ -14,7 +14,6 @@ pub mod Taking
 pub mod Plain
 pub mod Setting
 pub mod Numbering
-pub mod Cutting
 pub mod HeadsRead
 pub mod PacketsRead
 pub mod GiftsAgree

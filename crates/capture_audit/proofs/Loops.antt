@@ -12,6 +12,7 @@ use Rattle.packet_verdicts.specs.declared.kind.Kind.TheVariants as kinds
 use Rattle.packet_verdicts.specs.declared.kind.Sec.TheVariants as secs
 use Rattle.packet_verdicts.specs.Frames.{frame_of}
 use Rattle.packet_verdicts.specs.Kinds.{packet_kind}
+use Rattle.capture_audit.specs.declared.asks.Asks.{Asks}
 use Rattle.capture_audit.specs.declared.auditor.Auditor.{Auditor}
 use Rattle.capture_audit.specs.declared.batch.Waiting.{Waiting}
 use Rattle.capture_audit.specs.declared.end.AuditEnd.{AuditEnd}
@@ -35,11 +36,11 @@ element-drop ws i w less is =
     let n : suc i ≡ i + 1 = omega arith in
     drop-cons ws i w less ∙ ap (λ (x : Waiting). x ∷ drop (suc i) ws) (sym is) ∙ ap (λ k. w ∷ drop k ws) n
 
-module _ (shows : Bool) (ring : Ring) (before : List Unwrapped) (packets : List Seen) (found : List (Option ℕ))
+module _ (asks : Asks) (ring : Ring) (before : List Unwrapped) (packets : List Seen) (found : List (Option ℕ))
     (ws : List Waiting) where
   is-found : (now : List Unwrapped) (n : ℕ) (p : Seen) (w : Waiting)
       → HaveSameKeys (entries ring before) (entries ring now)
-      → IsWaiting shows ring (entries ring before) found n p w
+      → IsWaiting asks ring (entries ring before) found n p w
       → IsFound ring now p w.head w.kind (found_at found w.trial)
   is-found now n p w same is = record {
     head_is = is.head;
@@ -52,12 +53,12 @@ module _ (shows : Bool) (ring : Ring) (before : List Unwrapped) (packets : List 
   abbrev pub TellsOne : Waiting → Auditor → Auditor → List ℕ → List ℕ → Result (Unit {0}) AuditEnd → Type 0
   TellsOne w a a_then text text_then r = (now : List Unwrapped) (p : Seen) → Keeps ring now a
       → IsFound ring now p w.head w.kind (found_at found w.trial)
-      → w.line.items ≡ begun_part shows (number_behind now) (begun_words (frame_of p.octets) (packet_kind ring.groups p))
-      → Tells shows ring now p a a_then text text_then r
+      → w.line.items ≡ begun_part asks.shows (number_behind now) (begun_words (frame_of p.octets) (packet_kind ring.groups p))
+      → Tells asks ring now p a a_then text text_then r
 
   pub begins : (a : Auditor) (text : List ℕ) → Keeps ring before a
-      → AreWaiting shows ring (entries ring before) found (number_behind before) packets ws
-      → AreToldUpTo shows ring before packets found ws 0 a text text
+      → AreWaiting asks ring (entries ring before) found (number_behind before) packets ws
+      → AreToldUpTo asks ring before packets found ws 0 a text text
   begins a text keeps are = record {
     now = before;
     rest = packets;
@@ -71,10 +72,10 @@ module _ (shows : Bool) (ring : Ring) (before : List Unwrapped) (packets : List 
   goes-on : (i : ℕ) (w : Waiting) (a a_then : Auditor) (t0 text text_then : List ℕ)
       → TellsOne w a a_then text text_then (Ok tt)
       → (now : List Unwrapped) (rest : List Seen) → in_order now ++ rest ≡ in_order before ++ packets
-      → AreWaiting shows ring (entries ring before) found (number_behind now) rest (w ∷ drop (i + 1) ws)
+      → AreWaiting asks ring (entries ring before) found (number_behind now) rest (w ∷ drop (i + 1) ws)
       → Keeps ring now a → HaveSameKeys (entries ring before) (entries ring now)
-      → ((written : List ℕ) → written ++ t0 ≡ told_lines shows ring before → written ++ text ≡ told_lines shows ring now)
-      → AreToldUpTo shows ring before packets found ws (i + 1) a_then t0 text_then
+      → ((written : List ℕ) → written ++ t0 ≡ told_lines asks ring before → written ++ text ≡ told_lines asks ring now)
+      → AreToldUpTo asks ring before packets found ws (i + 1) a_then t0 text_then
   goes-on i w a a_then t0 text text_then tells now [] all left keeps same lines = absurd left
   goes-on i w a a_then t0 text text_then tells now (p ∷ ps) all left keeps same lines =
       let is = left.0 in
@@ -84,7 +85,7 @@ module _ (shows : Bool) (ring : Ring) (before : List Unwrapped) (packets : List 
         now = told.now;
         rest = ps;
         all = ap (λ (xs : List Seen). xs ++ ps) told.all ∙ append_assoc (in_order now) (p ∷ []) ps ∙ all;
-        left = subst (λ n. AreWaiting shows ring (entries ring before) found n ps (drop (i + 1) ws)) (sym told.number) left.1;
+        left = subst (λ n. AreWaiting asks ring (entries ring before) found n ps (drop (i + 1) ws)) (sym told.number) left.1;
         keeps = told.keeps;
         same = record {
           key_list = more.key_list ∙ same.key_list;
@@ -95,19 +96,19 @@ module _ (shows : Bool) (ring : Ring) (before : List Unwrapped) (packets : List 
 
   pub goes : (i : ℕ) (w : Waiting) (a a_then : Auditor) (t0 text text_then : List ℕ)
       → drop i ws ≡ w ∷ drop (i + 1) ws → TellsOne w a a_then text text_then (Ok tt)
-      → AreToldUpTo shows ring before packets found ws i a t0 text
-      → AreToldUpTo shows ring before packets found ws (i + 1) a_then t0 text_then
+      → AreToldUpTo asks ring before packets found ws i a t0 text
+      → AreToldUpTo asks ring before packets found ws (i + 1) a_then t0 text_then
   goes i w a a_then t0 text text_then e tells up =
       goes-on i w a a_then t0 text text_then tells up.now up.rest up.all
-      (subst (λ (xs : List Waiting). AreWaiting shows ring (entries ring before) found (number_behind up.now) up.rest xs) e up.left)
+      (subst (λ (xs : List Waiting). AreWaiting asks ring (entries ring before) found (number_behind up.now) up.rest xs) e up.left)
       up.keeps up.same up.lines
 
   ends-in : (end : AuditEnd) (i : ℕ) (w : Waiting) (a a_then : Auditor) (t0 text text_then : List ℕ)
       → TellsOne w a a_then text text_then (Err end)
       → (now : List Unwrapped) (rest : List Seen)
-      → AreWaiting shows ring (entries ring before) found (number_behind now) rest (w ∷ drop (i + 1) ws)
+      → AreWaiting asks ring (entries ring before) found (number_behind now) rest (w ∷ drop (i + 1) ws)
       → Keeps ring now a → HaveSameKeys (entries ring before) (entries ring now)
-      → TellsAll shows ring before packets a_then t0 text_then (Err end)
+      → TellsAll asks ring before packets a_then t0 text_then (Err end)
   ends-in end i w a a_then t0 text text_then tells now [] left keeps same = absurd left
   ends-in ends.KeyLimit i w a a_then t0 text text_then tells now (p ∷ ps) left keeps same =
       let is = left.0 in
@@ -121,23 +122,23 @@ module _ (shows : Bool) (ring : Ring) (before : List Unwrapped) (packets : List 
 
   pub stops : (end : AuditEnd) (i : ℕ) (w : Waiting) (a a_then : Auditor) (t0 text text_then : List ℕ)
       → drop i ws ≡ w ∷ drop (i + 1) ws → TellsOne w a a_then text text_then (Err end)
-      → AreToldUpTo shows ring before packets found ws i a t0 text
-      → TellsAll shows ring before packets a_then t0 text_then (Err end)
+      → AreToldUpTo asks ring before packets found ws i a t0 text
+      → TellsAll asks ring before packets a_then t0 text_then (Err end)
   stops end i w a a_then t0 text text_then e tells up =
       ends-in end i w a a_then t0 text text_then tells up.now up.rest
-      (subst (λ (xs : List Waiting). AreWaiting shows ring (entries ring before) found (number_behind up.now) up.rest xs) e up.left)
+      (subst (λ (xs : List Waiting). AreWaiting asks ring (entries ring before) found (number_behind up.now) up.rest xs) e up.left)
       up.keeps up.same
 
-  none-left : (told : List Entry) (n : ℕ) (rest : List Seen) → AreWaiting shows ring told found n rest [] → rest ≡ []
+  none-left : (told : List Entry) (n : ℕ) (rest : List Seen) → AreWaiting asks ring told found n rest [] → rest ≡ []
   none-left told n [] are = refl
   none-left told n (p ∷ ps) are = absurd are
 
   pub is-done : (i : ℕ) (a : Auditor) (t0 text : List ℕ) → drop i ws ≡ []
-      → AreToldUpTo shows ring before packets found ws i a t0 text
-      → AreTold shows ring before packets a t0 text
+      → AreToldUpTo asks ring before packets found ws i a t0 text
+      → AreTold asks ring before packets a t0 text
   is-done i a t0 text e up =
       let none = none-left (entries ring before) (number_behind up.now) up.rest
-      (subst (λ (xs : List Waiting). AreWaiting shows ring (entries ring before) found (number_behind up.now) up.rest xs) e up.left) in
+      (subst (λ (xs : List Waiting). AreWaiting asks ring (entries ring before) found (number_behind up.now) up.rest xs) e up.left) in
       record {
         now = up.now;
         all = sym (append-nil (in_order up.now)) ∙ ap (λ (xs : List Seen). in_order up.now ++ xs) (sym none) ∙ up.all;

@@ -1,15 +1,17 @@
 -- Of a text whose packets can be read to their end nothing is missed.
 use Rattle.std.proofs.Common.{◌≡◌, ◌∙◌, ◌<◌, ◌≤◌, ◌⊎◌, inl, inr, ℕ, Bool, true, false, cond, List, [], ◌∷◌, ◌++◌, length, Option, Some, None, Result, Ok, Err, refl, sym, ap, subst, arith, append_assoc}
-use Rattle.std.specs.Prelude.{◌||◌, ◌&&◌, nat_lt, is_some, All, map, reverse}
+use Rattle.std.specs.Prelude.{◌==◌, ◌||◌, nat_lt, All, map, reverse}
 use Rattle.std.proofs.lemmas.List.Elements.{All-cons, All-head, All-tail}
 use Rattle.std.proofs.lemmas.List.{append-nil, reverse-append, reverse-reverse}
 use Rattle.audit_report.specs.declared.blame.Blame.{Blame}
 use Rattle.audit_report.specs.declared.blame.Blame.TheVariants as blames
+use Rattle.audit_report.specs.declared.blame.Breach.{Breach}
+use Rattle.audit_report.specs.declared.blame.Breach.TheVariants as breaches
 use Rattle.audit_report.specs.declared.ending.Ending.{Ending}
 use Rattle.audit_report.specs.declared.ending.Ending.TheVariants as endings
 use Rattle.audit_report.specs.declared.tally.Tally.{Tally}
 use Rattle.audit_report.specs.Tallies.{tally_of}
-use Rattle.audit_report.specs.Verdicts.{Verdict, blame, doubt, is_refuted}
+use Rattle.audit_report.specs.Verdicts.{Verdict, blame, blame_for, breach, breach_of, doubt, strict_doubt}
 use Rattle.capture_packets.specs.Captures.{Told, capture}
 use Rattle.capture_packets.specs.Packets.{Seen}
 use Rattle.key_ring.specs.Reading.{file_in}
@@ -32,7 +34,7 @@ use Rattle.capture_audit.specs.declared.asks.Asks.{Asks}
 use Rattle.capture_audit.specs.declared.end.AuditEnd.{AuditEnd}
 use Rattle.capture_audit.specs.declared.end.AuditEnd.TheVariants as ends
 use Rattle.capture_audit.specs.Before.{IsUnwrapped, Unwrapped, UnwrapsBy, entries, entries_by, frames, kind_in, number_behind}
-use Rattle.capture_audit.specs.Ends.{EndsAudit, HasManySet, IsBlamed, IsBroken, IsOfOutside, IsReported, end_for}
+use Rattle.capture_audit.specs.Ends.{EndsAudit, HasManySet, IsBlamed, IsBreach, IsBroken, IsOfOutside, IsRefuted, IsReported, end_for}
 use Rattle.capture_audit.specs.Reading.{IsOneTooMany, IsRead, in_order}
 use Rattle.capture_audit.specs.Telling.{IsVerdict, all_told}
 use Rattle.capture_audit.specs.inside.Auditing.{end_of_ring}
@@ -108,35 +110,45 @@ keys-more ring (u ∷ later) earlier =
 
 -- ---- what is broken stays broken
 
-refuted-by : (once one_key : Option (ℕ × ℕ)) → (is_some once || is_some one_key) ≡ true
-    → ((pair : ℕ × ℕ) × (once ≡ Some pair)) ⊎ ((pair : ℕ × ℕ) × (one_key ≡ Some pair))
-refuted-by (Some pair) one_key is = inl (pair, refl)
-refuted-by None (Some pair) is = inr (pair, refl)
-refuted-by None None is = absurd (cc is)
-
-not-refuted : (once one_key : Option (ℕ × ℕ)) → (is_some once || is_some one_key) ≡ false
-    → (once ≡ None) × (one_key ≡ None)
+not-refuted : (once one_key : Option (ℕ × ℕ)) → breach_of once one_key ≡ None → (once ≡ None) × (one_key ≡ None)
 not-refuted (Some pair) one_key is = absurd (cc is)
 not-refuted None (Some pair) is = absurd (cc is)
 not-refuted None None is = (refl, refl)
 
-stays : (ring : Ring) (later earlier : List Unwrapped) (v : Verdict) → IsVerdict ring earlier v → is_refuted v ≡ true
-    → (i : ℕ) × (j : ℕ) × IsBroken ring (later ++ earlier) i j
-stays ring later earlier v was refuted = elim (refuted-by v.once v.one_key refuted) [
-  | inl it ↦
-      let l : IsLeast (BreaksOnce (frames ring (later ++ earlier))) it.0.0 it.0.1 =
+-- of a pair that shares a nonce, and of one that disagrees on a key where none shares a nonce
+module _ (ring : Ring) (later earlier : List Unwrapped) where
+  least-stays : (pair : ℕ × ℕ) → IsLeast (BreaksOnce (frames ring earlier)) pair.0 pair.1
+      → IsLeast (BreaksOnce (frames ring (later ++ earlier))) pair.0 pair.1
+  least-stays pair is =
       front-stays Number (List ℕ) same_check (length earlier) (noted (frames ring earlier))
-      (noted (frames ring (later ++ earlier))) it.0 (frames-front ring later earlier)
-      (subst (λ (o : Option (ℕ × ℕ)). IsJudged (BreaksOnce (frames ring earlier)) o) it.1 was.once) in
-      (it.0.0, it.0.1, inl l.broken)
-  | inr it ↦
-      let l : IsLeast (BreaksOneKey (entries ring (later ++ earlier))) it.0.0 it.0.1 =
-      subst (λ (es : List Entry). IsJudged (BreaksOneKey es) (Some it.0)) (sym (entries-front ring later earlier))
-      (stays-broken (later-entries ring later earlier) (entries ring earlier) (length earlier) it.0
-      (entries-within ring earlier (length earlier) (omega arith)) (later-behind ring later earlier)
-      (subst (λ (o : Option (ℕ × ℕ)). IsJudged (BreaksOneKey (entries ring earlier)) o) it.1 was.one_key)) in
-      (it.0.0, it.0.1, inr l.broken)
-]
+      (noted (frames ring (later ++ earlier))) pair (frames-front ring later earlier) is
+
+  key-stays : (pair : ℕ × ℕ) → IsLeast (BreaksOneKey (entries ring earlier)) pair.0 pair.1
+      → IsLeast (BreaksOneKey (entries ring (later ++ earlier))) pair.0 pair.1
+  key-stays pair is =
+      subst (λ (es : List Entry). IsJudged (BreaksOneKey es) (Some pair)) (sym (entries-front ring later earlier))
+      (stays-broken (later-entries ring later earlier) (entries ring earlier) (length earlier) pair
+      (entries-within ring earlier (length earlier) (omega arith)) (later-behind ring later earlier) is)
+
+  module _ (failed : Type 0)
+      (then : ((k m : ℕ) → BreaksOnce (frames ring earlier) k m → ⊥)
+      → ((k m : ℕ) → BreaksOnce (frames ring (later ++ earlier)) k m → ⊥) ⊎ failed) where
+    breach-stays : (once one_key : Option (ℕ × ℕ)) (b : Breach) → IsJudged (BreaksOnce (frames ring earlier)) once
+        → IsJudged (BreaksOneKey (entries ring earlier)) one_key → breach_of once one_key ≡ Some b
+        → IsBreach ring (later ++ earlier) failed b
+    breach-stays (Some pair) one_key b once key is =
+        let e : breaches.Nonce pair.0 pair.1 ≡ b = cc is in
+        subst (λ (x : Breach). IsBreach ring (later ++ earlier) failed x) e (least-stays pair once)
+    breach-stays None (Some pair) b once key is =
+        let e : breaches.Key pair.0 pair.1 ≡ b = cc is in
+        subst (λ (x : Breach). IsBreach ring (later ++ earlier) failed x) e (key-stays pair key, then once)
+    breach-stays None None b once key is = absurd (cc is)
+
+-- what breaks is a pair that is broken
+broken-by : (ring : Ring) (packets : List Unwrapped) (failed : Type 0) (b : Breach) → IsBreach ring packets failed b
+    → (i : ℕ) × (j : ℕ) × IsBroken ring packets i j
+broken-by ring packets failed (breaches.Nonce i j) is = (i, j, inl is.broken)
+broken-by ring packets failed (breaches.Key i j) is = (i, j, inr is.0.broken)
 
 -- ---- the key text is not read
 
@@ -159,31 +171,36 @@ keyed-so text left own ring supply is keyed said =
 -- ---- for what a capture is to blame
 
 -- of frames alone no capture is refuted
-no-doubt : (b : Bool) (wrong undecided : ℕ)
-    → cond b (blames.Doubted wrong undecided) blames.None ≡ blames.Refuted → ⊥
-no-doubt true wrong undecided e = cc e
-no-doubt false wrong undecided e = cc e
+no-doubt : (strict some none : Bool) (wrong undecided : ℕ) (b : Breach)
+    → cond strict (cond some (blames.Doubted wrong undecided) (cond none blames.NotJudged blames.None)) blames.None
+    ≡ blames.Refuted b → ⊥
+no-doubt true true none wrong undecided b e = cc e
+no-doubt true false true wrong undecided b e = cc e
+no-doubt true false false wrong undecided b e = cc e
+no-doubt false some none wrong undecided b e = cc e
 
-doubted-strict : (strict some : Bool) (wrong undecided one two : ℕ)
-    → cond (strict && some) (blames.Doubted wrong undecided) blames.None ≡ blames.Doubted one two → strict ≡ true
-doubted-strict true some wrong undecided one two e = refl
-doubted-strict false some wrong undecided one two e = absurd (cc e)
+-- and none is doubted that is not to be
+doubted-strict : (strict : Bool) (some blamed : Blame) → (blames.None ≡ blamed → ⊥) → cond strict some blames.None ≡ blamed
+    → strict ≡ true
+doubted-strict true some blamed other e = refl
+doubted-strict false some blamed other e = absurd (other e)
 
 module _ (strict : Bool) (t : Tally) (v : Verdict) where
-  blame-refuted : blame strict t v ≡ blames.Refuted → is_refuted v ≡ true
-  blame-refuted is = go (is_refuted v) is
+  blame-refuted : (b : Breach) → blame strict t v ≡ blames.Refuted b → breach v ≡ Some b
+  blame-refuted b is = go (breach v) is
     where
-      go : (b : Bool) → cond b blames.Refuted (doubt strict t) ≡ blames.Refuted → b ≡ true
-      go true e = refl
-      go false e = absurd (no-doubt (strict && (nat_lt 0 t.sec.wrong || nat_lt 0 t.sec.undecided)) t.sec.wrong t.sec.undecided e)
+      go : (o : Option Breach) → blame_for o (doubt strict t) ≡ blames.Refuted b → o ≡ Some b
+      go (Some a) e = cc e
+      go None e = absurd (no-doubt strict (nat_lt 0 t.sec.wrong || nat_lt 0 t.sec.undecided) (t.sec.right == 0)
+          t.sec.wrong t.sec.undecided b e)
 
-  blame-else : (blamed : Blame) → (blames.Refuted ≡ blamed → ⊥) → blame strict t v ≡ blamed
-      → (is_refuted v ≡ false) × (doubt strict t ≡ blamed)
-  blame-else blamed other is = go (is_refuted v) is
+  blame-else : (blamed : Blame) → ((b : Breach) → blames.Refuted b ≡ blamed → ⊥) → blame strict t v ≡ blamed
+      → (breach v ≡ None) × (doubt strict t ≡ blamed)
+  blame-else blamed other is = go (breach v) is
     where
-      go : (b : Bool) → cond b blames.Refuted (doubt strict t) ≡ blamed → (b ≡ false) × (doubt strict t ≡ blamed)
-      go true e = absurd (other e)
-      go false e = (refl, e)
+      go : (o : Option Breach) → blame_for o (doubt strict t) ≡ blamed → (o ≡ None) × (doubt strict t ≡ blamed)
+      go (Some a) e = absurd (other a e)
+      go None e = (refl, e)
 
 -- ---- what is told
 
@@ -246,22 +263,25 @@ module _ (law : IsOneKeyForOneWrap) (asks : Asks) (failed : Type 0) (text : List
   judged-here left held then ending blamed r =
       subst (λ (x : Ring). IsVerdict x r.packets r.verdict) (same-ring r.ring r.read.said) r.judged
 
-  -- all packets were read, and for nothing but frames the capture is to blame
-  module _ (left held then : Option (List ℕ)) (blamed : Blame) (other : blames.Refuted ≡ blamed → ⊥)
-      (r : IsReported asks text left endings.Whole blamed held then) where
-    all-read : r.packets ≡ packets
-    all-read =
-        whole-agrees law ring keyed r.packets packets (unwrapped left r.ring r.packets endings.Whole r.read) read.unwrapped
-        (sym (ap (λ (t : Told). t.packets) r.read.ends.2) ∙ all)
+  -- all packets were read
+  all-read : (left held then : Option (List ℕ)) (blamed : Blame)
+      → (r : IsReported asks text left endings.Whole blamed held then) → r.packets ≡ packets
+  all-read left held then blamed r =
+      whole-agrees law ring keyed r.packets packets (unwrapped left r.ring r.packets endings.Whole r.read) read.unwrapped
+      (sym (ap (λ (t : Told). t.packets) r.read.ends.2) ∙ all)
 
-    blamed-else : (is_refuted r.verdict ≡ false) × (doubt asks.strict (tally_of (all_told r.ring r.packets)) ≡ blamed)
+  -- and for nothing but frames the capture is to blame
+  module _ (left held then : Option (List ℕ)) (blamed : Blame) (other : (b : Breach) → blames.Refuted b ≡ blamed → ⊥)
+      (r : IsReported asks text left endings.Whole blamed held then) where
+    blamed-else : (breach r.verdict ≡ None) × (doubt asks.strict (tally_of (all_told r.ring r.packets)) ≡ blamed)
     blamed-else = blame-else asks.strict (tally_of (all_told r.ring r.packets)) r.verdict blamed other r.blame_is
 
     none-broken : (i j : ℕ) → IsBroken ring packets i j → ⊥
     none-broken i j =
         let none = not-refuted r.verdict.once r.verdict.one_key blamed-else.0 in
         let v : IsVerdict ring packets r.verdict =
-        subst (λ (us : List Unwrapped). IsVerdict ring us r.verdict) all-read (judged-here left held then endings.Whole blamed r) in
+        subst (λ (us : List Unwrapped). IsVerdict ring us r.verdict) (all-read left held then blamed r)
+        (judged-here left held then endings.Whole blamed r) in
         λ b. elim b [
           | inl once ↦
               subst (λ (o : Option (ℕ × ℕ)). IsJudged (BreaksOnce (frames ring packets)) o) none.0 v.once i j once
@@ -273,26 +293,43 @@ module _ (law : IsOneKeyForOneWrap) (asks : Asks) (failed : Type 0) (text : List
     ends-so =
         ap (λ (x : Blame). end_for x) (sym blamed-else.1)
         ∙ ap (λ (x : Ring). end_for (doubt asks.strict (tally_of (all_told x r.packets)))) (same-ring r.ring r.read.said)
-        ∙ ap (λ (us : List Unwrapped). end_for (doubt asks.strict (tally_of (all_told ring us)))) all-read
+        ∙ ap (λ (us : List Unwrapped). end_for (doubt asks.strict (tally_of (all_told ring us))))
+        (all-read left held then blamed r)
 
-  some-broken : (left held then : Option (List ℕ)) (ending : Ending)
-      → IsReported asks text left ending blames.Refuted held then → (i : ℕ) × (j : ℕ) × IsBroken ring packets i j
-  some-broken left held then ending r =
-      let f = fronts left r.ring r.packets ending r.read in
-      subst (λ (us : List Unwrapped). (i : ℕ) × (j : ℕ) × IsBroken ring us i j) (sym f.1)
-      (stays ring f.0 r.packets r.verdict (judged-here left held then ending blames.Refuted r)
-      (blame-refuted asks.strict (tally_of (all_told r.ring r.packets)) r.verdict r.blame_is))
+  -- a pair breaks: all packets were read, or the source failed
+  module _ (left held then : Option (List ℕ)) (b : Breach) where
+    abbrev refuted : Blame
+    refuted = blames.Refuted b
+
+    breaks : (ending : Ending) (r : IsReported asks text left ending refuted held then) (later : List Unwrapped)
+        → packets ≡ later ++ r.packets
+        → (((k m : ℕ) → BreaksOnce (frames ring r.packets) k m → ⊥)
+        → ((k m : ℕ) → BreaksOnce (frames ring (later ++ r.packets)) k m → ⊥) ⊎ failed)
+        → IsBreach ring packets failed b
+    breaks ending r later is then_none =
+        let v = judged-here left held then ending refuted r in
+        subst (λ (us : List Unwrapped). IsBreach ring us failed b) (sym is)
+        (breach-stays ring later r.packets failed then_none r.verdict.once r.verdict.one_key b v.once v.one_key
+        (blame-refuted asks.strict (tally_of (all_told r.ring r.packets)) r.verdict b r.blame_is))
+
+    whole-breach : IsBlamed asks text left failed refuted held then → IsBreach ring packets failed b
+    whole-breach (endings.Whole, so, r) =
+        breaks endings.Whole r [] (sym (all-read left held then refuted r)) (λ none. inl none)
+    whole-breach (endings.Fault, so, r) =
+        let f = fronts left r.ring r.packets endings.Fault r.read in
+        breaks endings.Fault r f.0 f.1 (λ none. inr (so refl))
+    whole-breach (endings.InputLimit, so, r) = absurd (not-past left r.ring r.packets r.read)
+    whole-breach (endings.KeyLimit, so, r) = absurd (not-full left r.ring r.packets r.read)
+    whole-breach (endings.Octet at why, so, r) = absurd (not-refused left r.ring r.packets at why r.read)
 
   -- frames are doubted: all packets were read, or the source failed
-  module _ (left held then : Option (List ℕ)) (wrong undecided : ℕ) where
-    abbrev doubted : Blame
-    doubted = blames.Doubted wrong undecided
-
+  module _ (left held then : Option (List ℕ)) (doubted : Blame) (some : blames.None ≡ doubted → ⊥)
+      (other : (b : Breach) → blames.Refuted b ≡ doubted → ⊥) where
     is-strict : (ending : Ending) → IsReported asks text left ending doubted held then → asks.strict ≡ true
     is-strict ending r =
         let t = tally_of (all_told r.ring r.packets) in
-        doubted-strict asks.strict (nat_lt 0 t.sec.wrong || nat_lt 0 t.sec.undecided) t.sec.wrong t.sec.undecided
-        wrong undecided (blame-else asks.strict t r.verdict doubted (λ e. cc e) r.blame_is).1
+        doubted-strict asks.strict (strict_doubt t.sec) doubted some
+        (blame-else asks.strict t r.verdict doubted other r.blame_is).1
 
     whole-doubted : IsBlamed asks text left failed doubted held then
         → IsReported asks text left endings.Whole doubted held then ⊎ ((asks.strict ≡ true) × failed)
@@ -305,15 +342,17 @@ module _ (law : IsOneKeyForOneWrap) (asks : Asks) (failed : Type 0) (text : List
   -- but for these ends it is of the outside
   abbrev IsOtherwise : Result (Unit {0}) AuditEnd → Type 0
   IsOtherwise (Ok done) = Unit {0}
-  IsOtherwise (Err ends.Refuted) = Unit {0}
+  IsOtherwise (Err (ends.Refuted breach)) = Unit {0}
   IsOtherwise (Err (ends.Doubted wrong undecided)) = Unit {0}
+  IsOtherwise (Err ends.NotJudged) = Unit {0}
   IsOtherwise result = IsOfOutside asks failed result
 
   otherwise : (left held then : Option (List ℕ)) (result : Result (Unit {0}) AuditEnd)
       → EndsAudit asks text left failed held then result → IsOtherwise result
   otherwise left held then (Ok done) is = tt
-  otherwise left held then (Err ends.Refuted) is = tt
+  otherwise left held then (Err (ends.Refuted breach)) is = tt
   otherwise left held then (Err (ends.Doubted wrong undecided)) is = tt
+  otherwise left held then (Err ends.NotJudged) is = tt
   otherwise left held then (Err (ends.KeyLine line why)) is = absurd (cc (sym read.said ∙ is.0))
   otherwise left held then (Err (ends.Refused at why)) (inl it) = absurd (cc (sym read.opens ∙ it.0.1))
   otherwise left held then (Err (ends.Refused at why)) (inr r) = absurd (not-refused left r.ring r.packets at why r.read)
@@ -328,12 +367,17 @@ module _ (law : IsOneKeyForOneWrap) (asks : Asks) (failed : Type 0) (text : List
 
   pub broken-told : (left held then : Option (List ℕ)) (result : Result (Unit {0}) AuditEnd) (i j : ℕ)
       → EndsAudit asks text left failed held then result → IsBroken ring packets i j
-      → (result ≡ Err ends.Refuted) ⊎ IsOfOutside asks failed result
-  broken-told left held then (Ok done) i j is b = absurd (none-broken left held then blames.None (λ e. cc e) is i j b)
-  broken-told left held then (Err ends.Refuted) i j is b = inl refl
+      → IsRefuted ring packets failed result ⊎ IsOfOutside asks failed result
+  broken-told left held then (Ok done) i j is b = absurd (none-broken left held then blames.None (λ c e. cc e) is i j b)
+  broken-told left held then (Err (ends.Refuted breach)) i j is b = inl (breach, whole-breach left held then breach is, refl)
   broken-told left held then (Err (ends.Doubted wrong undecided)) i j is b =
-      elim (whole-doubted left held then wrong undecided is) [
-        | inl r ↦ absurd (none-broken left held then (blames.Doubted wrong undecided) (λ e. cc e) r i j b)
+      elim (whole-doubted left held then (blames.Doubted wrong undecided) (λ e. cc e) (λ c e. cc e) is) [
+        | inl r ↦ absurd (none-broken left held then (blames.Doubted wrong undecided) (λ c e. cc e) r i j b)
+        | inr it ↦ inr (inr (inr (inr it)))
+      ]
+  broken-told left held then (Err ends.NotJudged) i j is b =
+      elim (whole-doubted left held then blames.NotJudged (λ e. cc e) (λ c e. cc e) is) [
+        | inl r ↦ absurd (none-broken left held then blames.NotJudged (λ c e. cc e) r i j b)
         | inr it ↦ inr (inr (inr (inr it)))
       ]
   broken-told left held then (Err (ends.KeyLine line why)) i j is b = inr (otherwise left held then (Err (ends.KeyLine line why)) is)
@@ -347,12 +391,17 @@ module _ (law : IsOneKeyForOneWrap) (asks : Asks) (failed : Type 0) (text : List
   pub clean-told : (left held then : Option (List ℕ)) (result : Result (Unit {0}) AuditEnd)
       → EndsAudit asks text left failed held then result → ((i j : ℕ) → IsBroken ring packets i j → ⊥)
       → (result ≡ end_for (doubt asks.strict (tally_of (all_told ring packets)))) ⊎ IsOfOutside asks failed result
-  clean-told left held then (Ok done) is none = inl (ends-so left held then blames.None (λ e. cc e) is)
-  clean-told left held then (Err ends.Refuted) is none =
-      let b = some-broken left held then is.0 is.2 in absurd (none b.0 b.1 b.2)
+  clean-told left held then (Ok done) is none = inl (ends-so left held then blames.None (λ c e. cc e) is)
+  clean-told left held then (Err (ends.Refuted breach)) is none =
+      let b = broken-by ring packets failed breach (whole-breach left held then breach is) in absurd (none b.0 b.1 b.2)
   clean-told left held then (Err (ends.Doubted wrong undecided)) is none =
-      elim (whole-doubted left held then wrong undecided is) [
-        | inl r ↦ inl (ends-so left held then (blames.Doubted wrong undecided) (λ e. cc e) r)
+      elim (whole-doubted left held then (blames.Doubted wrong undecided) (λ e. cc e) (λ c e. cc e) is) [
+        | inl r ↦ inl (ends-so left held then (blames.Doubted wrong undecided) (λ c e. cc e) r)
+        | inr it ↦ inr (inr (inr (inr it)))
+      ]
+  clean-told left held then (Err ends.NotJudged) is none =
+      elim (whole-doubted left held then blames.NotJudged (λ e. cc e) (λ c e. cc e) is) [
+        | inl r ↦ inl (ends-so left held then blames.NotJudged (λ c e. cc e) r)
         | inr it ↦ inr (inr (inr (inr it)))
       ]
   clean-told left held then (Err (ends.KeyLine line why)) is none = inr (otherwise left held then (Err (ends.KeyLine line why)) is)

@@ -48,7 +48,7 @@ spoken-more ring before u (kinds.Sec (secs.Protected tag check)) ss is =
     ∙ is
 spoken-more ring before u (kinds.Mka mkas.Cut) ss is = is
 spoken-more ring before u (kinds.Mka (mkas.Dropped refusal)) ss is = is
-spoken-more ring before u (kinds.Mka (mkas.Unknown sci gives)) ss is = is
+spoken-more ring before u (kinds.Mka (mkas.Unknown ckn sci gives)) ss is = is
 spoken-more ring before u (kinds.Mka (mkas.Wrong gives)) ss is = is
 spoken-more ring before u (kinds.Mka (mkas.Right group s)) ss is =
     ap (λ (ms : List RightMkpdu). mkpdu_of (number_behind before) group s ∷ ms) is
@@ -98,7 +98,7 @@ fresh-more ring before u kinds.Foreign fs are = past-one (number_behind before) 
 fresh-more ring before u kinds.Other fs are = past-one (number_behind before) fs are
 fresh-more ring before u (kinds.Mka mkas.Cut) fs are = past-one (number_behind before) fs are
 fresh-more ring before u (kinds.Mka (mkas.Dropped refusal)) fs are = past-one (number_behind before) fs are
-fresh-more ring before u (kinds.Mka (mkas.Unknown sci gives)) fs are = past-one (number_behind before) fs are
+fresh-more ring before u (kinds.Mka (mkas.Unknown ckn sci gives)) fs are = past-one (number_behind before) fs are
 fresh-more ring before u (kinds.Mka (mkas.Wrong gives)) fs are = past-one (number_behind before) fs are
 fresh-more ring before u (kinds.Mka (mkas.Right group s)) fs are = past-one (number_behind before) fs are
 
@@ -132,7 +132,7 @@ module _ (ring : Ring) (before : List Unwrapped) (u : Unwrapped) where
   next-by kinds.Other = tt
   next-by (kinds.Mka mkas.Cut) = tt
   next-by (kinds.Mka (mkas.Dropped refusal)) = tt
-  next-by (kinds.Mka (mkas.Unknown sci gives)) = tt
+  next-by (kinds.Mka (mkas.Unknown ckn sci gives)) = tt
   next-by (kinds.Mka (mkas.Wrong gives)) = tt
   next-by (kinds.Mka (mkas.Right group s)) =
       ap (λ (ms : List RightMkpdu). mkpdu_novelty ms (mkpdu_of (number_behind before) group s)) (sym (mkpdus-spoken ring before))

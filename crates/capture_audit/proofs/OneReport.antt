@@ -1,5 +1,5 @@
 -- Of one key text and the same packets there is one report.
-use Rattle.std.proofs.Common.{◌≡◌, ◌≢◌, ◌∙◌, ◌<◌, ◌≤◌, ◌⊎◌, inl, inr, ℕ, true, List, [], ◌∷◌, ◌++◌, length, map, Option, Ok, refl, sym, ap, subst, arith, append_assoc, length-append, take_all}
+use Rattle.std.proofs.Common.{◌≡◌, ◌≢◌, ◌∙◌, ◌<◌, ◌≤◌, ◌⊎◌, inl, inr, ℕ, List, [], ◌∷◌, ◌++◌, length, map, Option, Ok, refl, sym, ap, subst, arith, append_assoc, length-append, take_all}
 use Rattle.std.specs.Prelude.{All}
 use Rattle.std.specs.List.{AllByRecursion}
 use Rattle.std.proofs.lemmas.Bool.{cases_lt}
@@ -181,6 +181,7 @@ verdicts-agree ring packets one two is other =
     let changes = changes-alone (fresh_frames notes) one.changes two.changes is.changes other.changes in
     let unready = unready-alone (events notes) one.unready two.unready is.unready other.unready in
     let members = members-alone (spoken_of notes) one.members two.members is.members other.members in
+    let unknown = is.unknown ∙ sym other.unknown in
     λ i. record {
       once = once i;
       one_key = key i;
@@ -189,6 +190,7 @@ verdicts-agree ring packets one two is other =
       changes = changes i;
       unready = unready i;
       members = members i;
+      unknown = unknown i;
     }
 
 -- ---- the report
@@ -209,7 +211,7 @@ module _ (law : IsOneKeyForOneWrap) (asks : Asks) (seen : List Seen) (text other
   by-ring : (ring : Ring) (a b : List Unwrapped) (v w : Verdict) → ring_in text ≡ Ok ring
       → IsRead text left ring a one → IsRead other right ring b two → IsVerdict ring a v → IsVerdict ring b w
       → blamed_in ring a v ≡ blamed → blamed_in ring b w ≡ too
-      → then ≡ after held (report asks.shows ring a v one) → later ≡ after held (report asks.shows ring b w two)
+      → then ≡ after held (report asks ring a v one) → later ≡ after held (report asks ring b w two)
       → AreOne one two blamed too then later
   by-ring ring a b v w told r s is it for_one for_two written put =
       let both = ends-agree ring seen law (keyed ring told) a b one two
@@ -220,9 +222,9 @@ module _ (law : IsOneKeyForOneWrap) (asks : Asks) (seen : List Seen) (text other
         sym for_one ∙ ap (λ (us : List Unwrapped). blamed_in ring us v) both.1
             ∙ ap (λ (x : Verdict). blamed_in ring b x) same ∙ for_two,
         written
-            ∙ ap (λ (us : List Unwrapped). after held (report asks.shows ring us v one)) both.1
-            ∙ ap (λ (x : Verdict). after held (report asks.shows ring b x one)) same
-            ∙ ap (λ (e : Ending). after held (report asks.shows ring b w e)) both.0
+            ∙ ap (λ (us : List Unwrapped). after held (report asks ring us v one)) both.1
+            ∙ ap (λ (x : Verdict). after held (report asks ring b x one)) same
+            ∙ ap (λ (e : Ending). after held (report asks ring b w e)) both.0
             ∙ sym put,
       )
 
@@ -234,7 +236,7 @@ module _ (law : IsOneKeyForOneWrap) (asks : Asks) (seen : List Seen) (text other
       (subst (λ (x : Ring). IsRead other right x s.packets two) same s.read) r.judged
       (subst (λ (x : Ring). IsVerdict x s.packets s.verdict) same s.judged) r.blame_is
       (subst (λ (x : Ring). blamed_in x s.packets s.verdict ≡ too) same s.blame_is) r.written
-      (s.written ∙ ap (λ (x : Ring). after held (report asks.shows x s.packets s.verdict two)) same)
+      (s.written ∙ ap (λ (x : Ring). after held (report asks x s.packets s.verdict two)) same)
 
 -- ---- formats
 
@@ -248,8 +250,8 @@ IsOneList =
 
 -- what `law_parted` says
 abbrev pub IsPartedAlone : Type 0
-IsPartedAlone = (text keys file : List ℕ) → IsParted true text keys file
-    → (keys ≡ key_text true text) × (file ≡ capture_behind true text)
+IsPartedAlone = (text keys file : List ℕ) → IsParted text keys file
+    → (keys ≡ key_text text) × (file ≡ capture_behind text)
 
 has-all : IsOneList → (packets : List Seen) (file : List ℕ) → IsFileOf packets file → HasAll file packets
 has-all lists packets file (order, parts, fit, inl is) =
@@ -262,7 +264,7 @@ pub whole-of : IsOneList → IsPartedAlone → (packets : List Seen) (keys file 
 whole-of lists parted packets keys file text input is = (
   input.1,
   subst (λ (f : List ℕ). HasAll f packets)
-      ((parted text keys file input.0).1 ∙ ap (λ (t : List ℕ). capture_behind true t) (sym (take_all most_input text input.1)))
+      ((parted text keys file input.0).1 ∙ ap capture_behind (sym (take_all most_input text input.1)))
       (has-all lists packets file is),
 )
 

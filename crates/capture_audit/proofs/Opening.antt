@@ -75,7 +75,7 @@ pub open-err : (text : List ℕ) (left left_then : Option (List ℕ)) (ring : Ri
     → ((given : List ℕ) → Stands most_input text given supply left → take most_input text ≡ given ++ file_in text
     → Opens most_input text given (file_in text) left_then (Err end))
     → OpensFile text left_then (Err (end_of_head end))
-open-err text left left_then ring supply end (said, some, (given, stands, visible)) opens =
+open-err text left left_then ring supply end (said, (given, stands, visible)) opens =
     opens-end text given left_then end visible (opens given stands visible)
 
 pub open-ok : (text : List ℕ) (left left_then : Option (List ℕ)) (ring : Ring) (supply : Held) (reader : PacketReader)
@@ -83,7 +83,7 @@ pub open-ok : (text : List ℕ) (left left_then : Option (List ℕ)) (ring : Rin
     → ((given : List ℕ) → Stands most_input text given supply left → take most_input text ≡ given ++ file_in text
     → Opens most_input text given (file_in text) left_then (Ok reader))
     → OpensFile text left_then (Ok reader)
-open-ok text left left_then ring supply reader (said, some, (given, stands, visible)) opens =
+open-ok text left left_then ring supply reader (said, (given, stands, visible)) opens =
     opens-on text given reader left_then visible (opens given stands visible)
 
 pub open-ends : (asks : Asks) (text : List ℕ) (left held : Option (List ℕ)) (failed : Type 0) (end : AuditEnd)
@@ -96,16 +96,16 @@ open-ends asks text left held failed _ is = absurd is
 
 -- ---- before the packets
 
-pub set-told : (shows : Bool) (ring : Ring) (lines none : List ℕ) → none ≡ []
-    → lines ≡ none ++ set_lines (numbered_hand ring) → lines ≡ told_lines shows ring []
-set-told shows ring lines none empty is =
-    is ∙ ap (λ (xs : List ℕ). xs ++ set_lines (numbered_hand ring)) empty ∙ sym (append-nil (set_lines (numbered_hand ring)))
+pub set-told : (asks : Asks) (ring : Ring) (lines none : List ℕ) → none ≡ []
+    → lines ≡ none ++ set_lines asks.keys (numbered_hand ring) → lines ≡ told_lines asks ring []
+set-told asks ring lines none empty is =
+    is ∙ ap (λ (xs : List ℕ). xs ++ set_lines asks.keys (numbered_hand ring)) empty ∙ sym (append-nil (set_lines asks.keys (numbered_hand ring)))
 
-pub begins : (shows : Bool) (ring : Ring) (told : Option (List ℕ)) (reader : PacketReader) (left held : Option (List ℕ))
-    (a : Auditor) (b : Batch) → StandsAt shows ring [] [] [] a b
+pub begins : (asks : Asks) (ring : Ring) (told : Option (List ℕ)) (reader : PacketReader) (left held : Option (List ℕ))
+    (a : Auditor) (b : Batch) → StandsAt asks ring [] [] [] a b
     → ((text : List ℕ) → told ≡ Some text → IsReading text reader left [])
-    → IsAuditing shows ring told held reader left held a b
-begins shows ring told reader left held a b stands reading = record {
+    → IsAuditing asks ring told held reader left held a b
+begins asks ring told reader left held a b stands reading = record {
   before = [];
   waiting = [];
   written = [];
@@ -131,8 +131,9 @@ pub failed-earlier : (asks : Asks) (text : List ℕ) (left held then : Option (L
     (result : Result (Unit {0}) AuditEnd) → (failed → earlier) → EndsAudit asks text left failed held then result
     → EndsAudit asks text left earlier held then result
 failed-earlier asks text left held then failed earlier (Ok done) so is = is
-failed-earlier asks text left held then failed earlier (Err ends.Refuted) so is = (is.0, λ e. so (is.1 e), is.2)
+failed-earlier asks text left held then failed earlier (Err (ends.Refuted breach)) so is = (is.0, λ e. so (is.1 e), is.2)
 failed-earlier asks text left held then failed earlier (Err (ends.Doubted wrong undecided)) so is = (is.0, λ e. so (is.1 e), is.2)
+failed-earlier asks text left held then failed earlier (Err ends.NotJudged) so is = (is.0, λ e. so (is.1 e), is.2)
 failed-earlier asks text left held then failed earlier (Err (ends.KeyLine line why)) so is = is
 failed-earlier asks text left held then failed earlier (Err (ends.Refused at why)) so is = is
 failed-earlier asks text left held then failed earlier (Err ends.InputLimit) so is = is

@@ -5,12 +5,13 @@ use Rattle.std.specs.List.{list_any, position, position_or_len}
 use Rattle.std.proofs.lemmas.Bool.{cases_lt, le-ltb, lt-ltb}
 use Rattle.std.proofs.lemmas.List.Elements.{All-head, All-tail}
 use Rattle.std.proofs.lemmas.List.Quantifiers.{position-Some}
-use Rattle.audit_facts.specs.Noted.{Noted, events, fresh_frames, noted_of, spoken_of}
+use Rattle.audit_facts.specs.Noted.{Noted, events, fresh_frames, noted_of, spoken_of, unknown_names}
 use Rattle.audit_report.specs.Packets.{begun_words}
 use Rattle.audit_report.specs.Lines.{set_lines}
 use Rattle.audit_report.specs.Report.{packet_lines}
 use Rattle.audit_report.specs.Report as reports
 use Rattle.audit_report.specs.Told.{Told}
+use Rattle.audit_report.specs.Unknown.{unknown_of}
 use Rattle.audit_report.specs.Uses.{timed}
 use Rattle.audit_report.specs.Verdicts.{Verdict}
 use Rattle.audit_report.specs.declared.ending.Ending.{Ending}
@@ -40,6 +41,7 @@ use Rattle.rollover_notes.specs.Counted.{AreUnreadyOf}
 use Rattle.use_notes.specs.declared.frame.RightFrame.{RightFrame}
 use Rattle.use_notes.specs.Once.{BreaksOnce}
 use Rattle.use_notes.specs.Uses.{AreUsesOf}
+use Rattle.capture_audit.specs.declared.asks.Asks.{Asks}
 use Rattle.capture_audit.specs.Before.{IsUnwrapped, Unwrapped, UnwrapsBy, entries, entries_by, frame_by, frames, kind_in, mkpdu_by, mkpdus, number_behind, with_some}
 use Rattle.capture_audit.specs.Findings.{finding_by, mka_finding, sec_finding}
 use Rattle.capture_audit.specs.Laws.{IsOfOther, with_group}
@@ -111,7 +113,7 @@ module _ (groups : List GroupKeys) (keys : GroupKeys) where
     where
       go : (o : Option ℕ) → group_kind (groups ++ keys ∷ []) s o ≡ group_kind groups s o
       go (Some n) = refl
-      go None = ap (λ b. cond b (mkas.Wrong (is_some s.announcement.given)) (mkas.Unknown s.announcement.sci (is_some s.announcement.given)))
+      go None = ap (λ b. cond b (mkas.Wrong (is_some s.announcement.given)) (mkas.Unknown s.announcement.ckn s.announcement.sci (is_some s.announcement.given)))
           (any-more (has_name s.announcement.ckn) groups keys none)
 
   mka-same : (cut : Bool) (frame : List ℕ) (r : Result Spelled Refusal)
@@ -156,7 +158,7 @@ module _ (groups : List GroupKeys) (keys : GroupKeys) where
       → IsThere (kinds.Mka (group_kind groups s o))
   group-there p s (Some n) e = let less = (position-Some p groups n nobody e).0 in omega (arith, less)
   group-there p s None e =
-      elim (list_any (has_name s.announcement.ckn) groups) as (λ b. IsThere (kinds.Mka (cond b (mkas.Wrong (is_some s.announcement.given)) (mkas.Unknown s.announcement.sci (is_some s.announcement.given))))) [ true ↦ tt | false ↦ tt ]
+      elim (list_any (has_name s.announcement.ckn) groups) as (λ b. IsThere (kinds.Mka (cond b (mkas.Wrong (is_some s.announcement.given)) (mkas.Unknown s.announcement.ckn s.announcement.sci (is_some s.announcement.given))))) [ true ↦ tt | false ↦ tt ]
 
   mka-there : (cut : Bool) (frame : List ℕ) (r : Result Spelled Refusal) → IsThere (mka_kind groups cut frame r)
   mka-there cut frame (Ok s) = group-there (gives_check (take s.covered frame) s) s (position (gives_check (take s.covered frame) s) groups) refl
@@ -184,7 +186,7 @@ module _ (groups : List GroupKeys) (keys : GroupKeys) where
       (is.0, sym (get-more groups keys (group - 1) there) ∙ is.1, is.2)
   unwraps-in gift (kinds.Mka mkas.Cut) there is = is
   unwraps-in gift (kinds.Mka (mkas.Dropped refusal)) there is = is
-  unwraps-in gift (kinds.Mka (mkas.Unknown sci gives)) there is = is
+  unwraps-in gift (kinds.Mka (mkas.Unknown ckn sci gives)) there is = is
   unwraps-in gift (kinds.Mka (mkas.Wrong gives)) there is = is
   unwraps-in gift kinds.Foreign there is = is
   unwraps-in gift kinds.Other there is = is
@@ -195,7 +197,7 @@ module _ (groups : List GroupKeys) (keys : GroupKeys) where
       (is.0, get-more groups keys (group - 1) there ∙ is.1, is.2)
   unwraps-out gift (kinds.Mka mkas.Cut) there is = is
   unwraps-out gift (kinds.Mka (mkas.Dropped refusal)) there is = is
-  unwraps-out gift (kinds.Mka (mkas.Unknown sci gives)) there is = is
+  unwraps-out gift (kinds.Mka (mkas.Unknown ckn sci gives)) there is = is
   unwraps-out gift (kinds.Mka (mkas.Wrong gives)) there is = is
   unwraps-out gift kinds.Foreign there is = is
   unwraps-out gift kinds.Other there is = is
@@ -215,6 +217,7 @@ verdict-from one two packets v rights told notes is = record {
   changes = subst (λ (ns : List Noted). AreChangesOf (fresh_frames ns) v.changes) notes is.changes;
   unready = subst (λ (ns : List Noted). AreUnreadyOf (events ns) v.unready) notes is.unready;
   members = subst (λ (ns : List Noted). AreMembersOf (spoken_of ns) v.members) notes is.members;
+  unknown = is.unknown ∙ ap (λ (ns : List Noted). unknown_of (unknown_names ns)) notes;
 }
 
 module _ (ring : Ring) (keys : GroupKeys) where
@@ -297,12 +300,12 @@ module _ (ring : Ring) (keys : GroupKeys) where
     verdict-from ring more packets v (sym (frames-same packets all)) (sym (entries-same packets all)) (sym (noted-same packets all)),
   )
 
-  pub report-same : (shows : Bool) (packets : List Unwrapped) (v : Verdict) (ending : Ending) → All (IsOfOther keys) packets
-      → report shows more packets v ending ≡ report shows ring packets v ending
-  report-same shows packets v ending all =
-      ap (λ (told : List Told). reports.report shows (numbered_hand ring) told v ending) (told-same packets all)
+  pub report-same : (asks : Asks) (packets : List Unwrapped) (v : Verdict) (ending : Ending) → All (IsOfOther keys) packets
+      → report asks more packets v ending ≡ report asks ring packets v ending
+  report-same asks packets v ending all =
+      ap (λ (told : List Told). reports.report asks.shows asks.keys (numbered_hand ring) told v ending) (told-same packets all)
 
-  pub lines-same : (shows : Bool) (packets : List Unwrapped) → All (IsOfOther keys) packets
-      → told_lines shows more packets ≡ told_lines shows ring packets
-  lines-same shows packets all =
-      ap (λ (told : List Told). set_lines (numbered_hand ring) ++ packet_lines shows told) (told-same packets all)
+  pub lines-same : (asks : Asks) (packets : List Unwrapped) → All (IsOfOther keys) packets
+      → told_lines asks more packets ≡ told_lines asks ring packets
+  lines-same asks packets all =
+      ap (λ (told : List Told). set_lines asks.keys (numbered_hand ring) ++ packet_lines asks.shows asks.keys told) (told-same packets all)

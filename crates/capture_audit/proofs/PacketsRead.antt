@@ -18,10 +18,10 @@ use Rattle.capture_packets.specs.Captures.{Told, capture, frame_of, framed, head
 use Rattle.capture_packets.specs.Reading.{HasPackets, IsWithinNext, Opens, ReadsNext}
 use Rattle.capture_packets.proofs.Public.{opened-refused, packets-more, step-cut, told-end, told-refused}
 use Rattle.audit_text.specs.Parting.{capture_behind}
+use Rattle.audit_text.proofs.Public.{cut-to}
 use Rattle.key_ring.specs.Reading.{file_in}
 use Rattle.capture_audit.specs.Reading.{HasAll, IsFailedBehind, IsRefusedBehind}
 use Rattle.capture_audit.specs.inside.Auditing.{IsReading}
-use Rattle.capture_audit.proofs.Cutting.{cut-to}
 use Rattle.capture_audit.proofs.HeadsRead.{taken-front}
 
 pub reading-begins : (text given : List ℕ) (reader : PacketReader) (left : Option (List ℕ))
@@ -184,8 +184,8 @@ reading-failed text reader new left left_then packets packet r same f =
     let s = same-fronts r.given read.before (file_in text) (front ++ f.behind) two (omega (arith, start, starts, same)) in
     let file : file_in text ≡ (front ++ more) ++ c =
     s.rests ∙ ap (λ (l : List ℕ). front ++ l) parts ∙ sym (append_assoc front more c) in
-    let all : capture_behind true (r.given ++ ((front ++ more) ++ c)) ≡ (front ++ more) ++ c =
-    ap (capture_behind true) (ap (λ (l : List ℕ). r.given ++ l) (sym file) ∙ sym r.visible) ∙ file in
+    let all : capture_behind (r.given ++ ((front ++ more) ++ c)) ≡ (front ++ more) ++ c =
+    ap capture_behind (ap (λ (l : List ℕ). r.given ++ l) (sym file) ∙ sym r.visible) ∙ file in
     let has = front-all front packets f.known read.has in
     let four = front-long front packets has in
     let l = length-append front more in
@@ -197,10 +197,10 @@ reading-failed text reader new left left_then packets packet r same f =
       within = taken.within;
       front = front;
       more = more;
-      file = ap (λ (g : List ℕ). capture_behind true (g ++ more)) read.parts
-          ∙ ap (capture_behind true) (append_assoc read.before front more)
-          ∙ ap (λ (g : List ℕ). capture_behind true (g ++ (front ++ more))) (sym s.fronts)
-          ∙ cut-to true r.given (front ++ more) c (omega (arith, l, four)) all;
+      file = ap (λ (g : List ℕ). capture_behind (g ++ more)) read.parts
+          ∙ ap capture_behind (append_assoc read.before front more)
+          ∙ ap (λ (g : List ℕ). capture_behind (g ++ (front ++ more))) (sym s.fronts)
+          ∙ cut-to r.given (front ++ more) c (omega (arith, l, four)) all;
       has = has;
       none = failed-none front f.behind more c packets f.known read.has parts f.within;
     }

@@ -17,6 +17,7 @@ use Rattle.packet_verdicts.specs.declared.kind.Kind.TheVariants as kinds
 use Rattle.packet_verdicts.specs.Frames.{begins_with_tag, frame_of}
 use Rattle.packet_verdicts.specs.Groups.{GroupKeys}
 use Rattle.packet_verdicts.specs.Kinds.{frame_kind, is_cut, packet_kind}
+use Rattle.capture_audit.specs.declared.asks.Asks.{Asks}
 use Rattle.capture_audit.specs.declared.auditor.Auditor.{Auditor}
 use Rattle.capture_audit.specs.declared.batch.Batch.{Batch}
 use Rattle.capture_audit.specs.declared.batch.Waiting.{Waiting}
@@ -87,36 +88,37 @@ other-kind groups p ethernet other =
 
 -- ---- it is settled at once
 
-nobody : (shows : Bool) (ring : Ring) (told : List Entry) (found : List (Option ℕ)) (n : ℕ) (packets : List Seen)
-    (ws : List Waiting) → AreWaiting shows ring told found n packets ws → ws ≡ [] → packets ≡ []
-nobody shows ring told found n [] ws are none = refl
-nobody shows ring told found n (p ∷ ps) [] are none = absurd are
-nobody shows ring told found n (p ∷ ps) (w ∷ ws) are none = absurd (cc none)
+nobody : (asks : Asks) (ring : Ring) (told : List Entry) (found : List (Option ℕ)) (n : ℕ) (packets : List Seen)
+    (ws : List Waiting) → AreWaiting asks ring told found n packets ws → ws ≡ [] → packets ≡ []
+nobody asks ring told found n [] ws are none = refl
+nobody asks ring told found n (p ∷ ps) [] are none = absurd are
+nobody asks ring told found n (p ∷ ps) (w ∷ ws) are none = absurd (cc none)
 
 pub other-found : (ring : Ring) (before : List Unwrapped) (p : Seen) → packet_kind ring.groups p ≡ kinds.Other
     → IsFound ring before p p.head kinds.Other None
 other-found ring before p is = record { head_is = refl; kind_is = sym is; tried = tt }
 
-module _ (shows : Bool) (ring : Ring) (before : List Unwrapped) (p : Seen) (written : List ℕ) (held : Option (List ℕ))
-    (a new : Auditor) (b : Batch) (hidden : b.shows ≡ false) (none : b.waiting.items ≡ []) where
-  no-lines : (it : Finding) → StandsAt shows ring before [] written a b → packet_kind ring.groups p ≡ kinds.Other
+module _ (asks : Asks) (ring : Ring) (before : List Unwrapped) (p : Seen) (written : List ℕ) (held : Option (List ℕ))
+    (a new : Auditor) (b : Batch) (hidden : b.asks.shows ≡ false) (none : b.waiting.items ≡ []) where
+  no-lines : (it : Finding) → StandsAt asks ring before [] written a b → packet_kind ring.groups p ≡ kinds.Other
       → IsSettled ring before p it new
-      → finding_lines shows (number_behind before) (begun_words (frame_of p.octets) (packet_kind ring.groups p)) it ≡ []
+      → finding_lines asks.shows asks.keys (number_behind before) (begun_words (frame_of p.octets) (packet_kind ring.groups p)) it ≡ []
   no-lines it stands is done =
       let words = begun_words (frame_of p.octets) (packet_kind ring.groups p) in
       let other : it ≡ findings.Other = done.told_is
       ∙ ap (λ (k : Kind). finding_by ring before (record { packet = p; gift = done.gift }) k) is in
-      ap (λ s. finding_lines s (number_behind before) words it) (sym stands.shows_are ∙ hidden)
-      ∙ ap (λ (f : Finding). finding_lines false (number_behind before) words f) other
+      ap (λ s. finding_lines s asks.keys (number_behind before) words it)
+      (ap (λ (x : Asks). x.shows) (sym stands.asks_are) ∙ hidden)
+      ∙ ap (λ (f : Finding). finding_lines false asks.keys (number_behind before) words f) other
 
-  told-none : (it : Finding) → StandsAt shows ring before [] written a b → packet_kind ring.groups p ≡ kinds.Other
-      → IsSettled ring before p it new → IsTold shows ring before p new b.text.items b.text.items
+  told-none : (it : Finding) → StandsAt asks ring before [] written a b → packet_kind ring.groups p ≡ kinds.Other
+      → IsSettled ring before p it new → IsTold asks ring before p new b.text.items b.text.items
   told-none it stands is done =
-      told-more shows ring before p it new b.text.items b.text.items done
+      told-more asks ring before p it new b.text.items b.text.items done
       (sym (append-nil b.text.items) ∙ ap (λ (xs : List ℕ). b.text.items ++ xs) (sym (no-lines it stands is done)))
 
-  further : (it : Finding) → StandsAt shows ring before [] written a b → packet_kind ring.groups p ≡ kinds.Other
-      → IsSettled ring before p it new → IsFurther shows ring before (p ∷ []) written held held new b
+  further : (it : Finding) → StandsAt asks ring before [] written a b → packet_kind ring.groups p ≡ kinds.Other
+      → IsSettled ring before p it new → IsFurther asks ring before (p ∷ []) written held held new b
   further it stands is done =
       let told = told-none it stands is done in
       record {
@@ -127,15 +129,15 @@ module _ (shows : Bool) (ring : Ring) (before : List Unwrapped) (p : Seen) (writ
         written_is = after-none held;
         stands = record {
           keeps = told.keeps;
-          shows_are = stands.shows_are;
-          waits = subst (λ (ws : List Waiting). AreWaiting shows ring (entries ring told.now) (answers (entries ring told.now) b.trials.items) (number_behind told.now) [] ws)
+          asks_are = stands.asks_are;
+          waits = subst (λ (ws : List Waiting). AreWaiting asks ring (entries ring told.now) (answers (entries ring told.now) b.trials.items) (number_behind told.now) [] ws)
               (sym none) tt;
           lines = ap (λ (xs : List ℕ). xs ++ b.text.items) (append-nil written) ∙ told.lines written stands.lines;
         };
       }
 
-  stops : (end : AuditEnd) → StandsAt shows ring before [] written a b → Settles ring before p a new (Err end)
-      → Takes shows ring before [] p written held held new b (Err end)
+  stops : (end : AuditEnd) → StandsAt asks ring before [] written a b → Settles ring before p a new (Err end)
+      → Takes asks ring before [] p written held held new b (Err end)
   stops ends.KeyLimit stands is = record {
     now = before;
     all = sym (append-nil (in_order before));
@@ -145,23 +147,23 @@ module _ (shows : Bool) (ring : Ring) (before : List Unwrapped) (p : Seen) (writ
     lines = ap (λ (xs : List ℕ). xs ++ b.text.items) (append-nil written) ∙ stands.lines;
     full = record { gift = is.gift; unwrapped = is.unwrapped; many = is.many; same = refl };
   }
-  stops ends.Memory stands is = no-memory shows ring before [] p written held a b stands
+  stops ends.Memory stands is = no-memory asks ring before [] p written held a b stands
   stops _ stands is = absurd is
 
-  module _ (waiting : List Seen) (stands : StandsAt shows ring before waiting written a b) where
+  module _ (waiting : List Seen) (stands : StandsAt asks ring before waiting written a b) where
     empty : waiting ≡ []
-    empty = nobody shows ring (entries ring before) (answers (entries ring before) b.trials.items) (number_behind before)
+    empty = nobody asks ring (entries ring before) (answers (entries ring before) b.trials.items) (number_behind before)
         waiting b.waiting.items stands.waits none
 
-    alone : StandsAt shows ring before [] written a b
-    alone = subst (λ (ps : List Seen). StandsAt shows ring before ps written a b) empty stands
+    alone : StandsAt asks ring before [] written a b
+    alone = subst (λ (ps : List Seen). StandsAt asks ring before ps written a b) empty stands
 
     pub passes : (it : Finding) → packet_kind ring.groups p ≡ kinds.Other → IsSettled ring before p it new
-        → IsFurther shows ring before (waiting ++ p ∷ []) written held held new b
-    passes it is done = subst (λ (ps : List Seen). IsFurther shows ring before (ps ++ p ∷ []) written held held new b)
+        → IsFurther asks ring before (waiting ++ p ∷ []) written held held new b
+    passes it is done = subst (λ (ps : List Seen). IsFurther asks ring before (ps ++ p ∷ []) written held held new b)
         (sym empty) (further it alone is done)
 
     pub passes-not : (end : AuditEnd) → Settles ring before p a new (Err end)
-        → Takes shows ring before waiting p written held held new b (Err end)
-    passes-not end is = subst (λ (ps : List Seen). Takes shows ring before ps p written held held new b (Err end))
+        → Takes asks ring before waiting p written held held new b (Err end)
+    passes-not end is = subst (λ (ps : List Seen). Takes asks ring before ps p written held held new b (Err end))
         (sym empty) (stops end alone is)

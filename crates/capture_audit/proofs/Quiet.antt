@@ -50,7 +50,7 @@ quiet-same groups n nanos gift (kinds.Mka (mkas.Right group s)) told quiet is =
     let none = gives-none is.0.kek s.announcement.mi s.announcement.given gift quiet is.2 in
     subst (λ (g : Option Gift). HaveSameKeys told (mkpdu_entries n nanos group (shown_keys s.announcement.uses) g ++ told)) (sym none)
     (mkpdu-same n nanos group (shown_keys s.announcement.uses) told)
-quiet-same groups n nanos gift (kinds.Mka (mkas.Unknown sci gives)) told quiet is =
+quiet-same groups n nanos gift (kinds.Mka (mkas.Unknown ckn sci gives)) told quiet is =
     record { key_list = refl; right = λ tag frame. refl }
 quiet-same groups n nanos gift _ told quiet is = itself told
 

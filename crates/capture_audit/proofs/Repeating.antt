@@ -164,7 +164,7 @@ pub by-other : (n nanos : ℕ) (gift : Option Gift) (k : Kind) (told : List Entr
     → given (entries_by n nanos gift k ++ told) m ≡ given told m
 by-other n nanos gift (kinds.Mka (mkas.Right group s)) told m apart =
     given-mkpdu n nanos group (shown_keys s.announcement.uses) gift told m ∙ gift-other n nanos group gift told m apart
-by-other n nanos gift (kinds.Mka (mkas.Unknown sci gives)) told m apart = refl
+by-other n nanos gift (kinds.Mka (mkas.Unknown ckn sci gives)) told m apart = refl
 by-other n nanos gift _ told m apart = refl
 
 -- a key that stands last is one of the keys
@@ -218,7 +218,7 @@ by-again n then nanos time gift (kinds.Mka (mkas.Right group s)) told none past 
     given-mkpdu then time group shown gift now then
     ∙ gift-again n then nanos time group gift told now (mkpdu-keys n nanos group shown gift told) none past
     ∙ sym (given-mkpdu n nanos group shown gift told n)
-by-again n then nanos time gift (kinds.Mka (mkas.Unknown sci gives)) told none past = past ∙ sym none
+by-again n then nanos time gift (kinds.Mka (mkas.Unknown ckn sci gives)) told none past = past ∙ sym none
 by-again n then nanos time gift (kinds.Mka mkas.Cut) told none past = past ∙ sym none
 by-again n then nanos time gift (kinds.Mka (mkas.Dropped refusal)) told none past = past ∙ sym none
 by-again n then nanos time gift (kinds.Mka (mkas.Wrong gives)) told none past = past ∙ sym none

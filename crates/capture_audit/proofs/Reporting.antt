@@ -25,9 +25,9 @@ use Rattle.capture_audit.specs.inside.Batches.{Writes}
 use Rattle.capture_audit.proofs.Going.{after-both, are-first}
 
 -- a part of the lines of packets was written
-pub part-told : (shows : Bool) (text : List ℕ) (ring : Ring) (held then : Option (List ℕ)) → IsHeadRead text ring
-    → IsPartTold shows ring (Some text) held then → IsFrontTold shows text held then
-part-told shows text ring held then head part = record {
+pub part-told : (asks : Asks) (text : List ℕ) (ring : Ring) (held then : Option (List ℕ)) → IsHeadRead text ring
+    → IsPartTold asks ring (Some text) held then → IsFrontTold asks text held then
+part-told asks text ring held then head part = record {
   ring = ring;
   packets = part.packets;
   said = head.said;
@@ -40,28 +40,28 @@ part-told shows text ring held then head part = record {
 }
 
 pub reads-end : (asks : Asks) (text : List ℕ) (ring : Ring) (left held then : Option (List ℕ)) (failed : Type 0) (a : Auditor) (b : Batch)
-    (end : AuditEnd) → IsHeadRead text ring → ReadsUp asks.shows ring (Some text) held left then a b (Err end)
+    (end : AuditEnd) → IsHeadRead text ring → ReadsUp asks ring (Some text) held left then a b (Err end)
     → EndsAudit asks text left failed held then (Err end)
 reads-end asks text ring left held then failed a b ends.WriteFault head is =
-    inl (part-told asks.shows text ring held then head is)
+    inl (part-told asks text ring held then head is)
 reads-end asks text ring left held then failed a b ends.Memory head is =
-    inr (inl (part-told asks.shows text ring held then head is))
+    inr (inl (part-told asks text ring held then head is))
 reads-end asks text ring left held then failed a b _ head is = absurd is
 
-pub not-failed : (shows : Bool) (ring : Ring) (told held left then : Option (List ℕ)) (a : Auditor) (b : Batch)
-    (end : AuditEnd) → ReadsUp shows ring told held left then a b (Err end) → end ≡ ends.ReadFault → ⊥
-not-failed shows ring told held left then a b ends.WriteFault is e = cc e
-not-failed shows ring told held left then a b ends.Memory is e = cc e
-not-failed shows ring told held left then a b _ is e = is
+pub not-failed : (asks : Asks) (ring : Ring) (told held left then : Option (List ℕ)) (a : Auditor) (b : Batch)
+    (end : AuditEnd) → ReadsUp asks ring told held left then a b (Err end) → end ≡ ends.ReadFault → ⊥
+not-failed asks ring told held left then a b ends.WriteFault is e = cc e
+not-failed asks ring told held left then a b ends.Memory is e = cc e
+not-failed asks ring told held left then a b _ is e = is
 
 -- ---- the lines before the packets
 
-module _ (shows : Bool) (ring : Ring) (told held : Option (List ℕ)) (reader : PacketReader)
+module _ (asks : Asks) (ring : Ring) (told held : Option (List ℕ)) (reader : PacketReader)
     (left now then : Option (List ℕ)) (a : Auditor) (b : Batch)
-    (at : IsAuditing shows ring told held reader left now a b) where
+    (at : IsAuditing asks ring told held reader left now a b) where
   pub written-on : (b_then : Batch) → then ≡ after now b.text.items → b_then.text.items ≡ []
-      → b_then.waiting.items ≡ b.waiting.items → b_then.trials.items ≡ b.trials.items → b_then.shows ≡ b.shows
-      → IsAuditing shows ring told held reader left then a b_then
+      → b_then.waiting.items ≡ b.waiting.items → b_then.trials.items ≡ b.trials.items → b_then.asks ≡ b.asks
+      → IsAuditing asks ring told held reader left then a b_then
   written-on b_then is empty waiting trials shown = record {
     before = at.before;
     waiting = at.waiting;
@@ -70,7 +70,7 @@ module _ (shows : Bool) (ring : Ring) (told held : Option (List ℕ)) (reader : 
         ∙ after-both held at.written b.text.items;
     stands = record {
       keeps = at.stands.keeps;
-      shows_are = shown ∙ at.stands.shows_are;
+      asks_are = shown ∙ at.stands.asks_are;
       waits = rw (waiting, trials) at.stands.waits;
       lines = ap (λ (xs : List ℕ). (at.written ++ b.text.items) ++ xs) empty
           ∙ append-nil (at.written ++ b.text.items) ∙ at.stands.lines;
@@ -79,11 +79,11 @@ module _ (shows : Bool) (ring : Ring) (told held : Option (List ℕ)) (reader : 
   }
 
   part-of : (more : List ℕ) × (rest : List ℕ) × (0 < length rest) × (more ++ rest ≡ b.text.items) × (then ≡ after now more)
-      → IsPartTold shows ring told held then
+      → IsPartTold asks ring told held then
   part-of it = record {
     packets = at.before;
     unwrapped = at.stands.keeps.unwrapped;
-    first = are-first shows ring told held reader reader left left now now a b at;
+    first = are-first asks ring told held reader reader left left now now a b at;
     more = at.written ++ it.0;
     rest = it.1;
     lines = append_assoc at.written it.0 it.1 ∙ ap (λ (xs : List ℕ). at.written ++ xs) it.3 ∙ at.stands.lines;
@@ -91,7 +91,7 @@ module _ (shows : Bool) (ring : Ring) (told held : Option (List ℕ)) (reader : 
   }
 
   pub write-stops : (a_then : Auditor) (b_then : Batch) (left_then : Option (List ℕ)) (end : AuditEnd)
-      → Writes b.text.items now then (Err end) → ReadsUp shows ring told held left_then then a_then b_then (Err end)
+      → Writes b.text.items now then (Err end) → ReadsUp asks ring told held left_then then a_then b_then (Err end)
   write-stops a_then b_then left_then ends.WriteFault it = part-of it
   write-stops a_then b_then left_then ends.Memory it = part-of it
   write-stops a_then b_then left_then _ it = absurd it
@@ -100,7 +100,7 @@ module _ (shows : Bool) (ring : Ring) (told held : Option (List ℕ)) (reader : 
 
 module _ (asks : Asks) (text : List ℕ) (ring : Ring) (left held now then : Option (List ℕ)) (ending : Ending)
     (a : Auditor) (b : Batch) (head : IsHeadRead text ring)
-    (read : HasRead asks.shows ring (Some text) held ending left now a b) where
+    (read : HasRead asks ring (Some text) held ending left now a b) where
   is-read : IsRead text left ring read.packets ending
   is-read = record {
     said = head.said;
@@ -113,7 +113,7 @@ module _ (asks : Asks) (text : List ℕ) (ring : Ring) (left held now then : Opt
   }
 
   -- lines of packets alone were written
-  lines-alone : IsFrontTold asks.shows text held now
+  lines-alone : IsFrontTold asks text held now
   lines-alone = record {
     ring = ring;
     packets = read.packets;
@@ -130,11 +130,11 @@ module _ (asks : Asks) (text : List ℕ) (ring : Ring) (left held now then : Opt
   no-memory failed = inr (inl lines-alone)
 
   whole : (v : Verdict) (lines : List ℕ) → lines ≡ b.text.items ++ reports.end_lines a.tally v ending
-      → read.written ++ lines ≡ report asks.shows ring read.packets v ending
+      → read.written ++ lines ≡ report asks ring read.packets v ending
   whole v lines is =
       let end = reports.end_lines a.tally v ending in
-      let set = set_lines (numbered_hand ring) in
-      let told = reports.packet_lines asks.shows (all_told ring read.packets) in
+      let set = set_lines asks.keys (numbered_hand ring) in
+      let told = reports.packet_lines asks.shows asks.keys (all_told ring read.packets) in
       ap (λ (xs : List ℕ). read.written ++ xs) is ∙ sym (append_assoc read.written b.text.items end)
       ∙ ap (λ (xs : List ℕ). xs ++ end) read.lines ∙ append_assoc set told end
       ∙ ap (λ (t : Tally). set ++ (told ++ reports.end_lines t v ending)) read.keeps.tally
@@ -156,7 +156,7 @@ module _ (asks : Asks) (text : List ℕ) (ring : Ring) (left held now then : Opt
   front-reported : (v : Verdict) (lines : List ℕ) → lines ≡ b.text.items ++ reports.end_lines a.tally v ending
       → IsVerdict ring read.packets v
       → (more : List ℕ) × (rest : List ℕ) × (0 < length rest) × (more ++ rest ≡ lines) × (then ≡ after now more)
-      → IsFrontReported asks.shows text left held then
+      → IsFrontReported asks text left held then
   front-reported v lines is judged it = record {
     ring = ring;
     packets = read.packets;
@@ -193,7 +193,8 @@ module _ (asks : Asks) (text : List ℕ) (left held then : Option (List ℕ)) (f
       → IsReported asks text left ending blamed held then
       → EndsAudit asks text left failed held then (end_of blamed ending)
   ends-of blames.None ending so is = ends-at ending is
-  ends-of blames.Refuted ending so is = (ending, so, is)
+  ends-of (blames.Refuted breach) ending so is = (ending, so, is)
   ends-of (blames.Doubted wrong undecided) ending so is = (ending, so, is)
+  ends-of blames.NotJudged ending so is = (ending, so, is)
 
 -- ---- which faults an end can be

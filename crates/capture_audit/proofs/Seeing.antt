@@ -61,9 +61,9 @@ open-views text left _ is = absurd is
 
 -- ---- packets were read
 
-module _ (shows : Bool) (text : List ℕ) (ring : Ring) (left : Option (List ℕ)) (a : Auditor) (b : Batch) where
+module _ (asks : Asks) (text : List ℕ) (ring : Ring) (left : Option (List ℕ)) (a : Auditor) (b : Batch) where
   has-read : (ending : Ending) (then : Option (List ℕ)) → IsHeadRead text ring
-      → (read : HasRead shows ring (Some text) None ending left then a b) → IsRead text left ring read.packets ending
+      → (read : HasRead asks ring (Some text) None ending left then a b) → IsRead text left ring read.packets ending
   has-read ending then head read = record {
     said = head.said;
     head = head.head;
@@ -75,19 +75,19 @@ module _ (shows : Bool) (text : List ℕ) (ring : Ring) (left : Option (List ℕ
   }
 
   pub captured : (then : Option (List ℕ)) (r : Result Ending AuditEnd) → IsHeadRead text ring
-      → (r ≡ Err ends.WriteFault → ⊥) → ReadsUp shows ring (Some text) None left then a b r
+      → (r ≡ Err ends.WriteFault → ⊥) → ReadsUp asks ring (Some text) None left then a b r
       → ReadsCapture text ring left a r
   captured then (Ok ending) head written is = (is.packets, has-read ending then head is, is.keeps)
   captured then (Err ends.WriteFault) head written is = absurd (written refl)
   captured then (Err ends.Memory) head written is = tt
   captured then (Err _) head written is = absurd is
 
-pub never-failed : (shows : Bool) (ring : Ring) (told held left then : Option (List ℕ)) (a : Auditor) (b : Batch)
-    (r : Result Ending AuditEnd) → ReadsUp shows ring told held left then a b r → r ≡ Err ends.ReadFault → ⊥
-never-failed shows ring told held left then a b (Ok ending) is e = cc e
-never-failed shows ring told held left then a b (Err ends.WriteFault) is e = cc e
-never-failed shows ring told held left then a b (Err ends.Memory) is e = cc e
-never-failed shows ring told held left then a b (Err _) is e = is
+pub never-failed : (asks : Asks) (ring : Ring) (told held left then : Option (List ℕ)) (a : Auditor) (b : Batch)
+    (r : Result Ending AuditEnd) → ReadsUp asks ring told held left then a b r → r ≡ Err ends.ReadFault → ⊥
+never-failed asks ring told held left then a b (Ok ending) is e = cc e
+never-failed asks ring told held left then a b (Err ends.WriteFault) is e = cc e
+never-failed asks ring told held left then a b (Err ends.Memory) is e = cc e
+never-failed asks ring told held left then a b (Err _) is e = is
 
 -- a count that stays at nothing did not rise
 pub steady : Rose 0 0 → ⊥

@@ -72,9 +72,9 @@ many-stay before rest many =
 abbrev all_keys : List HandKey → List Secret
 all_keys hand = keys (set_behind [] hand)
 
-pub sets-begin : (hand : List HandKey) (known : KeptKeys) (text : List ℕ) → StandsFor [] known
-    → AreSetUpTo hand 0 known text text
-sets-begin hand known text stands = record {
+pub sets-begin : (hand : List HandKey) (shown : Bool) (known : KeptKeys) (text : List ℕ) → StandsFor [] known
+    → AreSetUpTo hand shown 0 known text text
+sets-begin hand shown known text stands = record {
   told = [];
   done = [];
   rest_is = refl;
@@ -84,13 +84,13 @@ sets-begin hand known text stands = record {
   numbers = refl;
 }
 
-pub sets-more : (hand : List HandKey) (i : ℕ) (key : HandKey) (number : ℕ) (known new : KeptKeys) (text text_then text_new : List ℕ)
-    → drop i hand ≡ key ∷ drop (i + 1) hand → (up : AreSetUpTo hand i known text text_then)
+pub sets-more : (hand : List HandKey) (shown : Bool) (i : ℕ) (key : HandKey) (number : ℕ) (known new : KeptKeys) (text text_then text_new : List ℕ)
+    → drop i hand ≡ key ∷ drop (i + 1) hand → (up : AreSetUpTo hand shown i known text text_then)
     → StandsFor (told_next up.told key) new → number_in (keys (told_next up.told key)) key.sak ≡ Some number
     → length (keys (told_next up.told key)) ≤ most_keys
-    → text_new ≡ text_then ++ hand_line number key
-    → AreSetUpTo hand (i + 1) new text text_new
-sets-more hand i key number known new text text_then text_new e up stands is few is_text =
+    → text_new ≡ text_then ++ hand_line shown number key
+    → AreSetUpTo hand shown (i + 1) new text text_new
+sets-more hand shown i key number known new text text_then text_new e up stands is few is_text =
     let rest = drop (i + 1) hand in
     let behind : set_behind (told_next up.told key) rest ≡ set_behind [] hand =
     ap (λ (ks : List HandKey). set_behind up.told ks) (sym e) ∙ up.rest_is in
@@ -103,34 +103,34 @@ sets-more hand i key number known new text text_then text_new e up stands is few
       rest_is = behind;
       stands = stands;
       few = few;
-      lines = is_text ∙ ap (λ (xs : List ℕ). xs ++ hand_line number key) up.lines
-          ∙ append_assoc text (set_lines up.done) (hand_line number key)
-          ∙ ap (λ (xs : List ℕ). text ++ (set_lines up.done ++ xs)) (sym (append-nil (hand_line number key)))
-          ∙ ap (λ (xs : List ℕ). text ++ xs) (sym (flat_map-append (λ (it : ℕ × HandKey). hand_line it.0 it.1) up.done ((number, key) ∷ [])));
+      lines = is_text ∙ ap (λ (xs : List ℕ). xs ++ hand_line shown number key) up.lines
+          ∙ append_assoc text (set_lines shown up.done) (hand_line shown number key)
+          ∙ ap (λ (xs : List ℕ). text ++ (set_lines shown up.done ++ xs)) (sym (append-nil (hand_line shown number key)))
+          ∙ ap (λ (xs : List ℕ). text ++ xs) (sym (flat_map-append (λ (it : ℕ × HandKey). hand_line shown it.0 it.1) up.done ((number, key) ∷ [])));
       numbers = append_assoc up.done ((number, key) ∷ []) (numbered_among (all_keys hand) rest)
           ∙ ap (λ n. up.done ++ ((n, key) ∷ numbered_among (all_keys hand) rest)) (sym same)
           ∙ ap (λ (ks : List HandKey). up.done ++ numbered_among (all_keys hand) ks) (sym e)
           ∙ up.numbers;
     }
 
-pub sets-stop : (hand : List HandKey) (i : ℕ) (key : HandKey) (known new : KeptKeys) (text text_then text_new : List ℕ) (e : KeyError)
-    → drop i hand ≡ key ∷ drop (i + 1) hand → (up : AreSetUpTo hand i known text text_then)
+pub sets-stop : (hand : List HandKey) (shown : Bool) (i : ℕ) (key : HandKey) (known new : KeptKeys) (text text_then text_new : List ℕ) (e : KeyError)
+    → drop i hand ≡ key ∷ drop (i + 1) hand → (up : AreSetUpTo hand shown i known text text_then)
     → (e ≡ TooManyKeys → AreTooMany (told_next up.told key))
-    → SetsKeys hand new text text_new (Err (end_of_key e))
-sets-stop hand i key known new text text_then text_new TooManyKeys is up many =
+    → SetsKeys hand shown new text text_new (Err (end_of_key e))
+sets-stop hand shown i key known new text text_then text_new TooManyKeys is up many =
     let rest = drop (i + 1) hand in
     let behind : set_behind (told_next up.told key) rest ≡ set_behind [] hand =
     ap (λ (ks : List HandKey). set_behind up.told ks) (sym is) ∙ up.rest_is in
     subst (λ (es : List Entry). AreTooMany es) behind (many-stay (told_next up.told key) rest (many refl))
-sets-stop hand i key known new text text_then text_new Memory is up many = tt
+sets-stop hand shown i key known new text text_then text_new Memory is up many = tt
 
-pub sets-end : (hand : List HandKey) (i : ℕ) (known : KeptKeys) (text text_then : List ℕ) → drop i hand ≡ []
-    → AreSetUpTo hand i known text text_then → SetsKeys hand known text text_then (Ok tt)
-sets-end hand i known text text_then e up =
+pub sets-end : (hand : List HandKey) (shown : Bool) (i : ℕ) (known : KeptKeys) (text text_then : List ℕ) → drop i hand ≡ []
+    → AreSetUpTo hand shown i known text text_then → SetsKeys hand shown known text text_then (Ok tt)
+sets-end hand shown i known text text_then e up =
     let told : up.told ≡ set_behind [] hand = ap (λ (ks : List HandKey). set_behind up.told ks) (sym e) ∙ up.rest_is in (
       subst (λ (es : List Entry). StandsFor es known) told up.stands,
       subst (λ (es : List Entry). length (keys es) ≤ most_keys) told up.few,
-      up.lines ∙ ap (λ (it : List (ℕ × HandKey)). text ++ set_lines it)
+      up.lines ∙ ap (λ (it : List (ℕ × HandKey)). text ++ set_lines shown it)
           (sym (append-nil up.done) ∙ ap (λ (ks : List HandKey). up.done ++ numbered_among (all_keys hand) ks) (sym e) ∙ up.numbers),
     )
 

@@ -10,6 +10,7 @@ use Rattle.packet_verdicts.specs.declared.kind.Kind.{Kind}
 use Rattle.packet_verdicts.specs.Frames.{frame_of}
 use Rattle.packet_verdicts.specs.Groups.{GroupKeys}
 use Rattle.packet_verdicts.specs.Kinds.{Fits, packet_kind}
+use Rattle.capture_audit.specs.declared.asks.Asks.{Asks}
 use Rattle.capture_audit.specs.declared.auditor.Auditor.{Auditor}
 use Rattle.capture_audit.specs.declared.batch.Batch.{Batch}
 use Rattle.capture_audit.specs.declared.end.AuditEnd.{AuditEnd}
@@ -44,13 +45,13 @@ after-both : (held : Option (List ℕ)) (one two : List ℕ) → after (after he
 after-both None one two = refl
 after-both (Some xs) one two = ap (λ (ys : List ℕ). Some ys) (append_assoc xs one two)
 
-module _ (shows : Bool) (ring : Ring) (before : List Unwrapped) (waiting : List Seen) (p : Seen) (written : List ℕ) where
-  pub no-memory : (held : Option (List ℕ)) (a : Auditor) (b : Batch) → StandsAt shows ring before waiting written a b
-      → IsPartWritten shows ring before (waiting ++ p ∷ []) written held held
-  no-memory held a b stands = none-written shows ring before (waiting ++ p ∷ []) written held a b waiting [] stands
+module _ (asks : Asks) (ring : Ring) (before : List Unwrapped) (waiting : List Seen) (p : Seen) (written : List ℕ) where
+  pub no-memory : (held : Option (List ℕ)) (a : Auditor) (b : Batch) → StandsAt asks ring before waiting written a b
+      → IsPartWritten asks ring before (waiting ++ p ∷ []) written held held
+  no-memory held a b stands = none-written asks ring before (waiting ++ p ∷ []) written held a b waiting [] stands
 
-  longer-part : (held then : Option (List ℕ)) → IsPartWritten shows ring before waiting written held then
-      → IsPartWritten shows ring before (waiting ++ p ∷ []) written held then
+  longer-part : (held then : Option (List ℕ)) → IsPartWritten asks ring before waiting written held then
+      → IsPartWritten asks ring before (waiting ++ p ∷ []) written held then
   longer-part held then part = record {
     now = part.now;
     later = part.later ++ p ∷ [];
@@ -65,35 +66,35 @@ module _ (shows : Bool) (ring : Ring) (before : List Unwrapped) (waiting : List 
 
   -- those that wait were not settled
   pub settle-stops : (end : AuditEnd) (held then : Option (List ℕ)) (a : Auditor) (b b_then : Batch)
-      → SettlesUp shows ring before waiting written held then a b (Err end)
-      → Takes shows ring before waiting p written held then a b_then (Err end)
+      → SettlesUp asks ring before waiting written held then a b (Err end)
+      → Takes asks ring before waiting p written held then a b_then (Err end)
   settle-stops ends.WriteFault held then a b b_then is = longer-part held then is
   settle-stops ends.Memory held then a b b_then is = longer-part held then is
   settle-stops _ held then a b b_then is = absurd is
 
   -- nor were those with one more
   pub both-stop : (end : AuditEnd) (held then : Option (List ℕ)) (a : Auditor) (b : Batch)
-      → SettlesUp shows ring before (waiting ++ p ∷ []) written held then a b (Err end)
-      → Takes shows ring before waiting p written held then a b (Err end)
+      → SettlesUp asks ring before (waiting ++ p ∷ []) written held then a b (Err end)
+      → Takes asks ring before waiting p written held then a b (Err end)
   both-stop ends.WriteFault held then a b is = is
   both-stop ends.Memory held then a b is = is
   both-stop _ held then a b is = absurd is
 
   pub waits-on : (held : Option (List ℕ)) (a : Auditor) (b : Batch)
-      → StandsAt shows ring before (waiting ++ p ∷ []) written a b
-      → IsFurther shows ring before (waiting ++ p ∷ []) written held held a b
+      → StandsAt asks ring before (waiting ++ p ∷ []) written a b
+      → IsFurther asks ring before (waiting ++ p ∷ []) written held held a b
   waits-on held a b stands = record {
     now = before;
     waiting = waiting ++ p ∷ [];
     all = refl;
     more = [];
     written_is = after-none held;
-    stands = subst (λ (xs : List ℕ). StandsAt shows ring before (waiting ++ p ∷ []) xs a b) (sym (append-nil written)) stands;
+    stands = subst (λ (xs : List ℕ). StandsAt asks ring before (waiting ++ p ∷ []) xs a b) (sym (append-nil written)) stands;
   }
 
   pub is-up : (held then : Option (List ℕ)) (a : Auditor) (b : Batch)
-      → IsSettledUp shows ring before (waiting ++ p ∷ []) written held then a b
-      → IsFurther shows ring before (waiting ++ p ∷ []) written held then a b
+      → IsSettledUp asks ring before (waiting ++ p ∷ []) written held then a b
+      → IsFurther asks ring before (waiting ++ p ∷ []) written held then a b
   is-up held then a b up = record {
     now = up.now;
     waiting = [];
@@ -105,12 +106,12 @@ module _ (shows : Bool) (ring : Ring) (before : List Unwrapped) (waiting : List 
 
   -- all that wait were settled, and then this one alone
   pub then-alone : (held between then : Option (List ℕ)) (a a_then : Auditor) (b b_then : Batch) (r : Result (Unit {0}) AuditEnd)
-      → (up : IsSettledUp shows ring before waiting written held between a b)
-      → SettlesAlone shows ring up.now p (written ++ up.more) between then a_then b_then r
-      → Takes shows ring before waiting p written held then a_then b_then r
+      → (up : IsSettledUp asks ring before waiting written held between a b)
+      → SettlesAlone asks ring up.now p (written ++ up.more) between then a_then b_then r
+      → Takes asks ring before waiting p written held then a_then b_then r
   then-alone held between then a a_then b b_then r up = elim r as (λ (r : Result (Unit {0}) AuditEnd).
-      SettlesAlone shows ring up.now p (written ++ up.more) between then a_then b_then r
-      → Takes shows ring before waiting p written held then a_then b_then r) [
+      SettlesAlone asks ring up.now p (written ++ up.more) between then a_then b_then r
+      → Takes asks ring before waiting p written held then a_then b_then r) [
         | Ok done ↦ λ is. record {
           now = is.now;
           waiting = [];
@@ -118,13 +119,13 @@ module _ (shows : Bool) (ring : Ring) (before : List Unwrapped) (waiting : List 
               ∙ append_assoc (in_order before) waiting (p ∷ []);
           more = up.more ++ is.more;
           written_is = is.written_is ∙ ap (λ (h : Option (List ℕ)). after h is.more) up.written_is ∙ after-both held up.more is.more;
-          stands = subst (λ (xs : List ℕ). StandsAt shows ring is.now [] xs a_then b_then) (append_assoc written up.more is.more) is.stands;
+          stands = subst (λ (xs : List ℕ). StandsAt asks ring is.now [] xs a_then b_then) (append_assoc written up.more is.more) is.stands;
         }
         | Err end ↦ λ is. on-err end is
       ]
     where
-      part : IsPartWritten shows ring up.now (p ∷ []) (written ++ up.more) between then
-          → IsPartWritten shows ring before (waiting ++ p ∷ []) written held then
+      part : IsPartWritten asks ring up.now (p ∷ []) (written ++ up.more) between then
+          → IsPartWritten asks ring before (waiting ++ p ∷ []) written held then
       part it = record {
         now = it.now;
         later = it.later;
@@ -136,8 +137,8 @@ module _ (shows : Bool) (ring : Ring) (before : List Unwrapped) (waiting : List 
         written_is = it.written_is ∙ ap (λ (h : Option (List ℕ)). after h it.more) up.written_is ∙ after-both held up.more it.more;
       }
 
-      on-err : (end : AuditEnd) → SettlesAlone shows ring up.now p (written ++ up.more) between then a_then b_then (Err end)
-          → Takes shows ring before waiting p written held then a_then b_then (Err end)
+      on-err : (end : AuditEnd) → SettlesAlone asks ring up.now p (written ++ up.more) between then a_then b_then (Err end)
+          → Takes asks ring before waiting p written held then a_then b_then (Err end)
       on-err ends.KeyLimit it = record {
         now = it.now;
         all = it.all ∙ append-nil (in_order up.now) ∙ up.all;

@@ -141,7 +141,7 @@ module _ (t : Tally) (v : Verdict) where
 
   pub some-end : (ending : Ending) → 0 < length (end_lines t v ending)
   some-end ending =
-      some-behind (count_lines t ending) (verdict_lines t v) (some-behind (begun_verdict v) (member_lines v.members ++ last_lines t v)
+      some-behind (count_lines t v.unknown ending) (verdict_lines t v) (some-behind (begun_verdict v) (member_lines v.members ++ last_lines t v)
       (some-behind (member_lines v.members) (last_lines t v) some-last))
 
   -- the lines of members stand between both parts
@@ -152,7 +152,7 @@ module _ (t : Tally) (v : Verdict) where
   pub end-in-parts : (text : List ℕ) (ending : Ending)
       → ((text ++ begun_lines t v ending) ++ member_lines v.members) ++ last_lines t v ≡ text ++ end_lines t v ending
   end-in-parts text ending =
-      in-parts text (count_lines t ending) (begun_verdict v) (member_lines v.members) (last_lines t v)
+      in-parts text (count_lines t v.unknown ending) (begun_verdict v) (member_lines v.members) (last_lines t v)
 
 -- ---- the lines of members, one after the other
 

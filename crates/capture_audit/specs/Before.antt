@@ -75,7 +75,7 @@ mkpdu_entries n nanos group shown gift =
 abbrev pub entries_by : ℕ → ℕ → Option Gift → Kind → List Entry
 entries_by n nanos gift (kinds.Mka (mkas.Right group s)) =
     mkpdu_entries n nanos group (shown_keys s.announcement.uses) gift
-entries_by n nanos gift (kinds.Mka (mkas.Unknown sci gives)) = Strange sci ∷ []
+entries_by n nanos gift (kinds.Mka (mkas.Unknown ckn sci gives)) = Strange sci ∷ []
 entries_by n nanos gift _ = []
 
 -- keys that are set by hand, behind what was told before

@@ -51,7 +51,7 @@ right_finding told spelled n nanos gift group s =
 abbrev pub mka_finding : List Entry → List RightMkpdu → ℕ → ℕ → Option Gift → Mka → Finding
 mka_finding told spelled n nanos gift mkas.Cut = findings.MkaCut
 mka_finding told spelled n nanos gift (mkas.Dropped refusal) = findings.Dropped refusal
-mka_finding told spelled n nanos gift (mkas.Unknown sci gives) = findings.Unknown gives
+mka_finding told spelled n nanos gift (mkas.Unknown ckn sci gives) = findings.Unknown gives
 mka_finding told spelled n nanos gift (mkas.Wrong gives) = findings.WrongMkpdu gives
 mka_finding told spelled n nanos gift (mkas.Right group s) =
     right_finding told spelled n nanos gift group s

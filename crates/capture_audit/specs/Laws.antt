@@ -28,7 +28,7 @@ IsFileOf packets file = (order : Order) × (parts : Parts) × AllByRecursion (Is
 
 -- a text within the limit is a key text and a file behind it
 abbrev pub IsInput : List ℕ → List ℕ → List ℕ → Type 0
-IsInput keys file text = IsParted true text keys file × (length text ≤ most_input)
+IsInput keys file text = IsParted text keys file × (length text ≤ most_input)
 
 -- a packet once more, at any time, with one of its own or not
 abbrev pub once_more : ℕ → Bool → Unwrapped → Unwrapped

@@ -1,5 +1,5 @@
 -- How reading the packets of a capture ends, which stands behind the key text.
-use Rattle.std.specs.Prelude.{true, ◌≡◌, ◌⊎◌, ℕ, ◌<◌, ◌≤◌, List, [], ◌∷◌, ◌++◌, length, map, reverse, All, Option, Some, None, Ok, Err}
+use Rattle.std.specs.Prelude.{◌≡◌, ◌⊎◌, ℕ, ◌<◌, ◌≤◌, List, [], ◌∷◌, ◌++◌, length, map, reverse, All, Option, Some, None, Ok, Err}
 use Rattle.lan_base.specs.Ranges.{most_input}
 use Rattle.capture_packets.specs.declared.fault.CaptureFault.{CaptureFault}
 use Rattle.capture_packets.specs.declared.fault.CaptureFault.TheVariants.{Cut}
@@ -41,7 +41,7 @@ pub record IsFailedBehind (text : List ℕ) (left : Option (List ℕ)) (packets 
   pub within : length taken ≤ most_input
   pub front : List ℕ
   pub more : List ℕ
-  pub file : capture_behind true taken ≡ front ++ more
+  pub file : capture_behind taken ≡ front ++ more
   pub has : HasAll front packets
   pub none : (length more < 28) ⊎ ((capture (front ++ more)).packets ≡ packets)
 
@@ -96,4 +96,4 @@ pub record IsHeadFailed (text : List ℕ) (left : Option (List ℕ)) : Type 0 wh
   pub told : left ≡ Some rest
   pub within : length taken ≤ most_input
   pub why : CaptureFault
-  pub unread : opened (capture_behind true taken) ≡ Err why
+  pub unread : opened (capture_behind taken) ≡ Err why

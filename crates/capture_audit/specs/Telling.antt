@@ -1,10 +1,11 @@
 -- What is told of packets: their lines, what is judged of them, and the report.
-use Rattle.std.specs.Prelude.{◌≡◌, ℕ, Bool, List, [], ◌∷◌, ◌++◌, map, unwrap_or}
-use Rattle.audit_facts.specs.Noted.{Noted, events, fresh_frames, noted_of, spoken_of}
+use Rattle.std.specs.Prelude.{◌≡◌, ℕ, List, [], ◌∷◌, ◌++◌, map, unwrap_or}
+use Rattle.audit_facts.specs.Noted.{Noted, events, fresh_frames, noted_of, spoken_of, unknown_names}
 use Rattle.audit_report.specs.Told.{Told}
 use Rattle.audit_report.specs.Lines.{set_lines}
 use Rattle.audit_report.specs.Packets.{begun_words}
 use Rattle.audit_report.specs.Report as reports
+use Rattle.audit_report.specs.Unknown.{unknown_of}
 use Rattle.audit_report.specs.Uses.{timed}
 use Rattle.audit_report.specs.Verdicts.{Verdict}
 use Rattle.audit_report.specs.declared.ending.Ending.{Ending}
@@ -20,6 +21,7 @@ use Rattle.packet_verdicts.specs.Frames.{frame_of}
 use Rattle.rollover_notes.specs.Counted.{AreUnreadyOf}
 use Rattle.use_notes.specs.Once.{BreaksOnce}
 use Rattle.use_notes.specs.Uses.{AreUsesOf}
+use Rattle.capture_audit.specs.declared.asks.Asks.{Asks}
 use Rattle.capture_audit.specs.Before.{Unwrapped, entries, frames, kind_in}
 use Rattle.capture_audit.specs.Findings.{finding}
 
@@ -51,18 +53,18 @@ abbrev pub numbered_hand : Ring → List (ℕ × HandKey)
 numbered_hand ring =
     map (λ key. (unwrap_or (number_in (keys (entries ring [])) key.sak) 0, key)) ring.hand
 
--- the lines of the keys that are set by hand, and those of packets
-abbrev pub told_lines : Bool → Ring → List Unwrapped → List ℕ
-told_lines shows ring packets =
-    set_lines (numbered_hand ring) ++ reports.packet_lines shows (all_told ring packets)
+-- the lines of the keys that are set by hand, and those of packets, as is asked for
+abbrev pub told_lines : Asks → Ring → List Unwrapped → List ℕ
+told_lines asks ring packets =
+    set_lines asks.keys (numbered_hand ring) ++ reports.packet_lines asks.shows asks.keys (all_told ring packets)
 
 -- ---- the verdict
 
 -- The least pair of packets that are right under one key, of one sender and packet number, with other
 -- check values; the least pair that give one identifier with two keys or association numbers, or one
 -- key under two identifiers; what is told of each key and sender, and how many of its fresh frames came
--- late; from which key each sender came to which, and which members were not ready for a key; and what is
--- told of each member.
+-- late; from which key each sender came to which, and which members were not ready for a key; what is told of
+-- each member; and of the names that no group has.
 pub record IsVerdict (ring : Ring) (packets : List Unwrapped) (v : Verdict) : Type 0 where
   pub once : IsJudged (BreaksOnce (frames ring packets)) v.once
   pub one_key : IsJudged (BreaksOneKey (entries ring packets)) v.one_key
@@ -71,9 +73,10 @@ pub record IsVerdict (ring : Ring) (packets : List Unwrapped) (v : Verdict) : Ty
   pub changes : AreChangesOf (fresh_frames (noted ring packets)) v.changes
   pub unready : AreUnreadyOf (events (noted ring packets)) v.unready
   pub members : AreMembersOf (spoken_of (noted ring packets)) v.members
+  pub unknown : v.unknown ≡ unknown_of (unknown_names (noted ring packets))
 
 -- ---- the report
 
-abbrev pub report : Bool → Ring → List Unwrapped → Verdict → Ending → List ℕ
-report shows ring packets v ending =
-    reports.report shows (numbered_hand ring) (all_told ring packets) v ending
+abbrev pub report : Asks → Ring → List Unwrapped → Verdict → Ending → List ℕ
+report asks ring packets v ending =
+    reports.report asks.shows asks.keys (numbered_hand ring) (all_told ring packets) v ending

@@ -5,6 +5,8 @@
 pub struct Asks {
     /// A line of each packet.
     pub shows: bool,
-    /// That no protected frame is wrong or undecided.
+    /// That a protected frame is right, and none wrong or undecided.
     pub strict: bool,
+    /// Keys themselves, in the lines that tell of them.
+    pub keys: bool,
 }

@@ -9,7 +9,7 @@ ghost use Rattle.key_ring.specs.Rings.{Ring};
 ghost use Rattle.lan_base.specs.Faults.{Rose};
 ghost use Rattle.capture_audit.specs.declared.end.AuditEnd.TheVariants as ends;
 ghost use Rattle.capture_audit.specs.Before.{Unwrapped};
-ghost use Rattle.capture_audit.specs.Ends.{EndsAudit, IsBroken, IsOfOutside, RisesAt, end_at, end_for, end_of};
+ghost use Rattle.capture_audit.specs.Ends.{EndsAudit, IsBroken, IsOfOutside, IsRefuted, RisesAt, end_at, end_for, end_of};
 ghost use Rattle.capture_audit.specs.Reading.{IsRead};
 ghost use Rattle.capture_audit.specs.Telling.{all_told};
 ghost use Rattle.capture_audit.specs.inside.Auditing.{CanRead, HasRead, IsAuditing, IsHeadRead, OpensFile};
@@ -51,12 +51,12 @@ pub fn audit<T: Threads + Sync, S: Source, K: Sink>(
     ensures write_fault { RisesAt (Err ends.WriteFault) (K.faults sink.old) (K.faults sink.new) result }
 
     // Of a text whose packets can be read to their end nothing is missed: where a pair of them breaks
-    // it is refuted, and else it ends as the frames that are asked about decide, but for faults of the
-    // outside and want of memory.
+    // it is refuted by the least, and else it ends as the frames that are asked about decide, but for
+    // faults of the outside and want of memory.
     ensures broken { (text : List ℕ) (ring : Ring) (packets : List Unwrapped) (i j : ℕ)
         → S.left source.old ≡ Some text → IsRead text (Some []) ring packets endings.Whole
         → IsBroken ring packets i j
-        → (result ≡ Err ends.Refuted)
+        → IsRefuted ring packets (Rose (S.faults source.old) (S.faults source.new)) result
         ⊎ IsOfOutside asks (Rose (S.faults source.old) (S.faults source.new)) result }
     ensures clean { (text : List ℕ) (ring : Ring) (packets : List Unwrapped)
         → S.left source.old ≡ Some text → IsRead text (Some []) ring packets endings.Whole
@@ -87,8 +87,8 @@ fn audit_with<T: Threads + Sync, S: Source, K: Sink>(
     ensures write_fault { RisesAt (Err ends.WriteFault) (K.faults sink.old) (K.faults sink.new) result }
 {
     let mut text = Vec::new(alloc);
-    let mut auditor = Auditor::of(alloc, ring, &mut text)?;
-    let mut batch = Batch::new(alloc, asks.shows, text);
+    let mut auditor = Auditor::of(alloc, ring, asks.keys, &mut text)?;
+    let mut batch = Batch::new(alloc, asks, text);
     audit_capture(rt, asks, supply, source, &mut auditor, &mut batch, sink)
 }
 
@@ -107,10 +107,10 @@ fn audit_capture<T: Threads + Sync, S: Source, K: Sink>(
     requires room { auditor.old.tally.all + length batch.old.waiting.items ≤ 0 }
     ensures audited { (text : List ℕ) (ring : Ring)
         → ReadsRing text (S.left source.old) (Ok (ring, supply))
-        → StandsAt asks.shows ring [] [] [] auditor.old batch.old
+        → StandsAt asks ring [] [] [] auditor.old batch.old
         → EndsAudit asks text (S.left source.new) (Rose (S.faults source.old) (S.faults source.new))
         (K.held sink.old) (K.held sink.new) result }
-    ensures read_fault { (shows : Bool) (ring : Ring) → StandsAt shows ring [] [] [] auditor.old batch.old
+    ensures read_fault { (ring : Ring) → StandsAt asks ring [] [] [] auditor.old batch.old
         → result ≡ Err ends.ReadFault → Rose (S.faults source.old) (S.faults source.new) }
     ensures reads { S.faults source.old ≤ S.faults source.new }
     ensures write_fault { RisesAt (Err ends.WriteFault) (K.faults sink.old) (K.faults sink.new) result }
@@ -149,11 +149,11 @@ fn audit_packets<T: Threads + Sync, S: Source, K: Sink>(
 ) -> Result<(), AuditEnd>
     requires can { CanRead reader.old auditor.old batch.old }
     ensures audited { (text : List ℕ) (ring : Ring) (held : Option (List ℕ)) → IsHeadRead text ring
-        → IsAuditing asks.shows ring (Some text) held reader.old (S.left source.old) (K.held sink.old) auditor.old batch.old
+        → IsAuditing asks ring (Some text) held reader.old (S.left source.old) (K.held sink.old) auditor.old batch.old
         → EndsAudit asks text (S.left source.new) (Rose (S.faults source.old) (S.faults source.new))
         held (K.held sink.new) result }
-    ensures read_fault { (shows : Bool) (ring : Ring) (held : Option (List ℕ))
-        → IsAuditing shows ring None held reader.old (S.left source.old) (K.held sink.old) auditor.old batch.old
+    ensures read_fault { (ring : Ring) (held : Option (List ℕ))
+        → IsAuditing asks ring None held reader.old (S.left source.old) (K.held sink.old) auditor.old batch.old
         → result ≡ Err ends.ReadFault → Rose (S.faults source.old) (S.faults source.new) }
     ensures reads { S.faults source.old ≤ S.faults source.new }
     ensures write_fault { RisesAt (Err ends.WriteFault) (K.faults sink.old) (K.faults sink.new) result }
@@ -173,7 +173,7 @@ fn report<K: Sink>(
 ) -> Result<(), AuditEnd>
     ensures reports { (text : List ℕ) (ring : Ring) (left held : Option (List ℕ)) (faults faults_then : ℕ)
         → IsHeadRead text ring → (ending ≡ endings.Fault → Rose faults faults_then)
-        → HasRead asks.shows ring (Some text) held ending left (K.held sink.old) auditor.now batch.old
+        → HasRead asks ring (Some text) held ending left (K.held sink.old) auditor.now batch.old
         → EndsAudit asks text left (Rose faults faults_then) held (K.held sink.new) result }
     ensures read_fault { result ≡ Err ends.ReadFault → ending ≡ endings.Fault }
     ensures write_fault { RisesAt (Err ends.WriteFault) (K.faults sink.old) (K.faults sink.new) result }
@@ -189,8 +189,9 @@ pub(crate) fn end_of(blame: Blame, ending: Ending) -> Result<(), AuditEnd>
 {
     match blame {
         Blame::None => end_at(ending),
-        Blame::Refuted => Err(AuditEnd::Refuted),
+        Blame::Refuted(breach) => Err(AuditEnd::Refuted(breach)),
         Blame::Doubted { wrong, undecided } => Err(AuditEnd::Doubted { wrong, undecided }),
+        Blame::NotJudged => Err(AuditEnd::NotJudged),
     }
 }
 

@@ -43,19 +43,24 @@ pub struct Auditor {
 }
 
 impl Auditor {
-    /// Of no packet, with the groups and keys of a key text, whose lines of keys are appended. An `Err`
-    /// may leave some of them.
-    pub fn of(alloc: Global, ring: KeyRing, into: &mut Vec<u8>) -> Result<Auditor, AuditEnd>
+    /// Of no packet, with the groups and keys of a key text, whose lines of keys are appended, with `keys`
+    /// the keys themselves too. An `Err` may leave some of them.
+    pub fn of(
+        alloc: Global,
+        ring: KeyRing,
+        keys: bool,
+        into: &mut Vec<u8>,
+    ) -> Result<Auditor, AuditEnd>
         requires few { length ring.groups < 2 ^ 32 }
         ensures keeps { IfOk result (λ a. Keeps ring [] a) }
         ensures sound { IfOk result (λ a. IsSound a) }
         ensures none { IfOk result (λ a. a.tally.all ≡ 0) }
         ensures lines { OnOk result (into.new.items
-            ≡ into.old.items ++ set_lines (numbered_hand ring)) }
+            ≡ into.old.items ++ set_lines keys (numbered_hand ring)) }
         ensures ends { EndsOf ring result }
     {
         let mut known = KnownKeys::new(alloc);
-        set_keys(&mut known, &ring.hand, into)?;
+        set_keys(&mut known, &ring.hand, keys, into)?;
         Ok(Auditor {
             groups: ring.groups,
             known,
@@ -76,6 +81,7 @@ impl Auditor {
         let changes = self.facts.changes()?;
         let unready = self.facts.unready()?;
         let members = self.facts.members()?;
+        let unknown = self.facts.unknown()?;
         Ok(Verdict::of(
             self.uses.once(),
             self.known.one_key(),
@@ -84,6 +90,7 @@ impl Auditor {
             changes,
             unready,
             members,
+            unknown,
         ))
     }
 
@@ -214,7 +221,7 @@ impl Auditor {
         match mka {
             Mka::Cut => Ok(Finding::MkaCut),
             Mka::Dropped(refusal) => Ok(Finding::Dropped(*refusal)),
-            Mka::Unknown { sci, gives } => {
+            Mka::Unknown { sci, gives, .. } => {
                 self.known.strange(*sci)?;
                 Ok(Finding::Unknown { gives: *gives })
             }
@@ -263,14 +270,19 @@ impl Auditor {
 }
 
 /// Sets keys by hand one after the other, and appends their lines.
-fn set_keys(known: &mut KnownKeys, hand: &[HandKey], into: &mut Vec<u8>) -> Result<(), AuditEnd>
+fn set_keys(
+    known: &mut KnownKeys,
+    hand: &[HandKey],
+    keys: bool,
+    into: &mut Vec<u8>,
+) -> Result<(), AuditEnd>
     ensures sets { KnownStandsFor [] known.old
-        → SetsKeys hand.now known.new into.old.items into.new.items result }
+        → SetsKeys hand.now keys known.new into.old.items into.new.items result }
     ensures last { OnOk result (known.new.firsts.last ≡ known.old.firsts.last) }
 {
     for key in hand {
         let number = known.set(key.sender, key.an, key.sak)?;
-        put_hand_line(number, key, into)?;
+        put_hand_line(number, key, keys, into)?;
     }
     Ok(())
 }

@@ -17,6 +17,7 @@ ghost use Rattle.capture_audit.specs.Telling.{told_lines};
 ghost use Rattle.capture_audit.specs.inside.Batches.{AreWaiting, IsJudged, IsLonger, IsReady, IsTriedAt, SettlesAlone, SettlesUp, StandsAt, Takes, Tells, TellsAll, Writes, answers, distributes, found_at, has_other_type};
 ghost use Rattle.capture_audit.specs.inside.Keeping.{IsFound, IsOfGroup, IsSound, Keeps};
 
+use crate::asks::Asks;
 use crate::auditor::Auditor;
 use crate::end::AuditEnd;
 use audit_report::{begin_line, put_finding};
@@ -50,7 +51,7 @@ pub struct Waiting {
 #[derive(Drop)]
 pub struct Batch {
     pub alloc: Global,
-    pub shows: bool,
+    pub asks: Asks,
     pub waiting: Vec<Waiting>,
     pub trials: Vec<Trial>,
     /// How many octets the packets of the trials have.
@@ -60,16 +61,16 @@ pub struct Batch {
 }
 
 impl Batch {
-    /// No packet, behind lines that are to be written. With `shows` each packet has a line.
-    pub fn new(alloc: Global, shows: bool, text: Vec<u8>) -> Batch
+    /// No packet, behind lines that are to be written, where this is asked for.
+    pub fn new(alloc: Global, asks: Asks, text: Vec<u8>) -> Batch
         ensures stands { (ring : Ring) (a : Auditor) → Keeps ring [] a
-            → text.items ≡ told_lines shows ring [] → StandsAt shows ring [] [] [] a result }
+            → text.items ≡ told_lines asks ring [] → StandsAt asks ring [] [] [] a result }
         ensures ready { (groups : List GroupKeys) → IsReady groups result }
         ensures none { result.waiting.items ≡ [] }
     {
         Batch {
             alloc,
-            shows,
+            asks,
             waiting: Vec::new(alloc),
             trials: Vec::new(alloc),
             octets: 0,
@@ -90,9 +91,9 @@ impl Batch {
         requires sound { IsSound auditor.old }
         requires ready { IsReady auditor.old.groups self.old }
         requires room { auditor.old.tally.all + (length self.old.waiting.items + 1) < 2 ^ 32 }
-        ensures takes { (shows : Bool) (ring : Ring) (before : List Unwrapped) (waiting : List Seen)
-            (written : List ℕ) → StandsAt shows ring before waiting written auditor.old self.old
-            → Takes shows ring before waiting (seen packet) written (K.held sink.old) (K.held sink.new)
+        ensures takes { (asks : Asks) (ring : Ring) (before : List Unwrapped) (waiting : List Seen)
+            (written : List ℕ) → StandsAt asks ring before waiting written auditor.old self.old
+            → Takes asks ring before waiting (seen packet) written (K.held sink.old) (K.held sink.new)
             auditor.new self.new result }
         ensures sound { OnOk result (IsSound auditor.new) }
         ensures groups { OnOk result (auditor.new.groups ≡ auditor.old.groups) }
@@ -121,12 +122,12 @@ impl Batch {
     /// Whether a packet passes: none waits before it, packets have no lines of their own, and its EtherType
     /// shows that it is neither a protected frame nor one of key agreement.
     fn passes(&self, packet: &Packet) -> bool
-        ensures shows { result ≡ true → self.now.shows ≡ false }
+        ensures shows { result ≡ true → self.now.asks.shows ≡ false }
         ensures none { result ≡ true → self.now.waiting.items ≡ [] }
         ensures ethernet { result ≡ true → packet.now.head.is_ethernet ≡ true }
         ensures other { result ≡ true → has_other_type packet.now.octets.items ≡ true }
     {
-        !self.shows
+        !self.asks.shows
             && self.waiting.is_empty()
             && packet.head.is_ethernet
             && has_other_type(&packet.octets)
@@ -148,11 +149,11 @@ impl Batch {
         requires start { start ≤ length packet.octets.items }
         requires fits { Fits auditor.now.groups (drop start packet.octets.items) kind }
         requires room { auditor.now.tally.all + (length self.old.waiting.items + 1) < 2 ^ 32 }
-        ensures puts { (shows : Bool) (ring : Ring) (before : List Unwrapped) (waiting : List Seen)
-            (written : List ℕ) (one : Seen) → StandsAt shows ring before waiting written auditor.now self.old
+        ensures puts { (asks : Asks) (ring : Ring) (before : List Unwrapped) (waiting : List Seen)
+            (written : List ℕ) (one : Seen) → StandsAt asks ring before waiting written auditor.now self.old
             → IsJudged ring one packet.head kind (drop start packet.octets.items)
             → distributes kind ≡ false
-            → OnOk result (StandsAt shows ring before (waiting ++ one ∷ []) written auditor.now self.new) }
+            → OnOk result (StandsAt asks ring before (waiting ++ one ∷ []) written auditor.now self.new) }
         ensures ready { IsReady auditor.now.groups self.old
             → OnOk result (IsReady auditor.now.groups self.new) }
         ensures count { OnOk result
@@ -174,10 +175,10 @@ impl Batch {
     /// The front of a packet's line, where lines of packets are shown.
     fn begin(&self, number: u32, frame: &[u8], kind: &Kind) -> Result<Vec<u8>, AllocError>
         ensures { IfOk result (λ line. line.items
-            ≡ begun_part self.now.shows number (begun_words frame.now kind.now)) }
+            ≡ begun_part self.now.asks.shows number (begun_words frame.now kind.now)) }
     {
         let mut line = Vec::new(self.alloc);
-        if self.shows {
+        if self.asks.shows {
             begin_line(number, frame, kind, &mut line)?;
         }
         Ok(line)
@@ -202,7 +203,7 @@ impl Batch {
             → OnOk result (All IsTrial self.new.trials.items) }
         ensures waiting { self.new.waiting.items ≡ self.old.waiting.items }
         ensures text { self.new.text.items ≡ self.old.text.items }
-        ensures shows { self.new.shows ≡ self.old.shows }
+        ensures asks { self.new.asks ≡ self.old.asks }
     {
         let Kind::Sec(Sec::Protected { tag, .. }) = kind else {
             return Ok(None);
@@ -235,11 +236,11 @@ impl Batch {
         requires room { auditor.old.tally.all + 1 < 2 ^ 32 }
         requires start { start ≤ length packet.octets.items }
         requires fits { Fits auditor.old.groups (drop start packet.octets.items) kind }
-        ensures settles { (shows : Bool) (ring : Ring) (before : List Unwrapped) (written : List ℕ) (one : Seen)
-            → StandsAt shows ring before [] written auditor.old self.old
+        ensures settles { (asks : Asks) (ring : Ring) (before : List Unwrapped) (written : List ℕ) (one : Seen)
+            → StandsAt asks ring before [] written auditor.old self.old
             → IsJudged ring one packet.head kind (drop start packet.octets.items)
             → distributes kind ≡ true
-            → SettlesAlone shows ring before one written (K.held sink.old) (K.held sink.new)
+            → SettlesAlone asks ring before one written (K.held sink.old) (K.held sink.new)
             auditor.new self.new result }
         ensures sound { OnOk result (IsSound auditor.new) }
         ensures groups { OnOk result (auditor.new.groups ≡ auditor.old.groups) }
@@ -255,7 +256,7 @@ impl Batch {
             line,
             trial: None,
         };
-        tell(self.shows, auditor, &alone, None, &mut self.text)?;
+        tell(self.asks, auditor, &alone, None, &mut self.text)?;
         self.write(sink)
     }
 
@@ -269,9 +270,9 @@ impl Batch {
         requires sound { IsSound auditor.old }
         requires ready { IsReady auditor.old.groups self.old }
         requires room { auditor.old.tally.all + length self.old.waiting.items < 2 ^ 32 }
-        ensures settles { (shows : Bool) (ring : Ring) (before : List Unwrapped) (packets : List Seen)
-            (written : List ℕ) → StandsAt shows ring before packets written auditor.old self.old
-            → SettlesUp shows ring before packets written (K.held sink.old) (K.held sink.new)
+        ensures settles { (asks : Asks) (ring : Ring) (before : List Unwrapped) (packets : List Seen)
+            (written : List ℕ) → StandsAt asks ring before packets written auditor.old self.old
+            → SettlesUp asks ring before packets written (K.held sink.old) (K.held sink.new)
             auditor.new self.new result }
         ensures sound { OnOk result (IsSound auditor.new) }
         ensures groups { OnOk result (auditor.new.groups ≡ auditor.old.groups) }
@@ -283,7 +284,7 @@ impl Batch {
     {
         run_trials(rt, auditor.known.prepared(), &mut self.trials);
         tell_all(
-            self.shows,
+            self.asks,
             auditor,
             &self.waiting,
             &self.trials,
@@ -301,7 +302,7 @@ impl Batch {
         ensures empty { OnOk result (self.new.text.items ≡ []) }
         ensures waiting { self.new.waiting.items ≡ self.old.waiting.items }
         ensures trials { self.new.trials.items ≡ self.old.trials.items }
-        ensures shows { self.new.shows ≡ self.old.shows }
+        ensures asks { self.new.asks ≡ self.old.asks }
         ensures write_fault { RisesAt (Err ends.WriteFault) (K.faults sink.old) (K.faults sink.new) result }
     {
         let result = write_all(sink, &self.text);
@@ -316,7 +317,7 @@ impl Batch {
 
 /// Settles packets that wait, whose frames were tried, and appends their lines.
 fn tell_all(
-    shows: bool,
+    asks: Asks,
     auditor: &mut Auditor,
     waiting: &[Waiting],
     trials: &[Trial],
@@ -327,9 +328,9 @@ fn tell_all(
     requires room { auditor.old.tally.all + length waiting.now < 2 ^ 32 }
     ensures tells { (ring : Ring) (before : List Unwrapped) (packets : List Seen)
         → Keeps ring before auditor.old
-        → AreWaiting shows ring (entries ring before) (map newest trials.now) (number_behind before)
+        → AreWaiting asks ring (entries ring before) (map newest trials.now) (number_behind before)
         packets waiting.now
-        → TellsAll shows ring before packets auditor.new text.old.items text.new.items result }
+        → TellsAll asks ring before packets auditor.new text.old.items text.new.items result }
     ensures ends { result ≢ Err ends.WriteFault }
     ensures sound { OnOk result (IsSound auditor.new) }
     ensures groups { OnOk result (auditor.new.groups ≡ auditor.old.groups) }
@@ -337,7 +338,7 @@ fn tell_all(
 {
     for each in waiting {
         let newest = newest_at(trials, each.trial);
-        tell(shows, auditor, each, newest, text)?;
+        tell(asks, auditor, each, newest, text)?;
     }
     Ok(())
 }
@@ -354,7 +355,7 @@ fn newest_at(trials: &[Trial], place: Option<usize>) -> Option<u32>
 
 /// Settles a packet, and appends its lines. A key too many leaves all as it was.
 fn tell(
-    shows: bool,
+    asks: Asks,
     auditor: &mut Auditor,
     waiting: &Waiting,
     newest: Option<u32>,
@@ -366,16 +367,17 @@ fn tell(
     ensures tells { (ring : Ring) (before : List Unwrapped) (packet : Seen)
         → Keeps ring before auditor.old
         → IsFound ring before packet waiting.now.head waiting.now.kind newest
-        → waiting.now.line.items ≡ begun_part shows (number_behind before)
+        → waiting.now.line.items ≡ begun_part asks.shows (number_behind before)
         (begun_words (frame_of packet.octets) (packet_kind ring.groups packet))
-        → Tells shows ring before packet auditor.old auditor.new text.old.items text.new.items result }
+        → Tells asks ring before packet auditor.old auditor.new text.old.items text.new.items result }
     ensures ends { result ≢ Err ends.WriteFault }
     ensures sound { OnOk result (IsSound auditor.new) }
     ensures groups { OnOk result (auditor.new.groups ≡ auditor.old.groups) }
     ensures count { OnOk result (auditor.new.tally.all ≡ auditor.old.tally.all + 1) }
 {
     let finding = auditor.settle(&waiting.head, &waiting.kind, newest)?;
-    put_finding(shows, &waiting.line, auditor.tally.all, &finding, text)?;
+    let number = auditor.tally.all;
+    put_finding(asks.shows, &waiting.line, number, &finding, asks.keys, text)?;
     Ok(())
 }
 

@@ -4,6 +4,7 @@ ghost use Rattle.std.specs.Prelude.{◌≡◌};
 ghost use Rattle.capture_audit.specs.declared.end.AuditEnd.TheVariants as ends;
 ghost use Rattle.capture_audit.specs.inside.Auditing.{end_of_head, end_of_ring};
 
+use audit_report::Breach;
 use capture_packets::CaptureFault;
 use std::alloc::{AllocError, AllocFailed};
 use text_lines::End;
@@ -18,12 +19,16 @@ pub enum AuditEnd {
     #[error("line {line}: {why:?}")]
     KeyLine { line: u32, why: TextFault },
     /// A pair of packets breaks what is judged. The report was written.
-    #[error("capture refuted")]
-    Refuted,
+    #[error("capture refuted: {0}")]
+    Refuted(Breach),
     /// No pair breaks, but so many protected frames are wrong and so many undecided, and none was to be.
     /// The report was written.
     #[error("capture doubted: {wrong} wrong, {undecided} undecided")]
     Doubted { wrong: u32, undecided: u32 },
+    /// No pair breaks, and no protected frame is wrong or undecided, but none is right, and one was to be.
+    /// The report was written.
+    #[error("capture doubted: nothing judged")]
+    NotJudged,
     /// The capture is refused: its head, where nothing was written, or the record or block that begins
     /// at this octet of it, where the report was.
     #[error("capture octet {at}: {why:?}")]

@@ -40,8 +40,8 @@ pub fn law_the_least_pair_is_named()
 /// What is told of a front of the packets is told first of the whole, and what is broken in it stays
 /// broken, by the same pair: so what was written while a capture grew is not taken back.
 pub fn law_a_front_is_told_first()
-    ensures lines { (shows : Bool) (ring : Ring) (later earlier : List Unwrapped)
-        → (more : List ℕ) × (told_lines shows ring (later ++ earlier) ≡ told_lines shows ring earlier ++ more) }
+    ensures lines { (asks : Asks) (ring : Ring) (later earlier : List Unwrapped)
+        → (more : List ℕ) × (told_lines asks ring (later ++ earlier) ≡ told_lines asks ring earlier ++ more) }
     ensures once { (ring : Ring) (later earlier : List Unwrapped) (front whole : Verdict) (pair : ℕ × ℕ)
         → IsVerdict ring earlier front → IsVerdict ring (later ++ earlier) whole
         → front.once ≡ Some pair → whole.once ≡ Some pair }
@@ -105,10 +105,10 @@ pub fn law_a_group_without_frames_changes_nothing()
     ensures verdict { (ring : Ring) (keys : GroupKeys) (packets : List Unwrapped) (v : Verdict)
         → All (IsOfOther keys) packets
         → IsVerdict (with_group ring keys) packets v ↔ IsVerdict ring packets v }
-    ensures lines { (shows : Bool) (ring : Ring) (keys : GroupKeys) (packets : List Unwrapped)
+    ensures lines { (asks : Asks) (ring : Ring) (keys : GroupKeys) (packets : List Unwrapped)
         → All (IsOfOther keys) packets
-        → told_lines shows (with_group ring keys) packets ≡ told_lines shows ring packets }
-    ensures report { (shows : Bool) (ring : Ring) (keys : GroupKeys) (packets : List Unwrapped) (v : Verdict)
+        → told_lines asks (with_group ring keys) packets ≡ told_lines asks ring packets }
+    ensures report { (asks : Asks) (ring : Ring) (keys : GroupKeys) (packets : List Unwrapped) (v : Verdict)
         (ending : Ending) → All (IsOfOther keys) packets
-        → report shows (with_group ring keys) packets v ending ≡ report shows ring packets v ending }
+        → report asks (with_group ring keys) packets v ending ≡ report asks ring packets v ending }
 {}

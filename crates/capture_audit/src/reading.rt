@@ -3,6 +3,7 @@
 ghost use Rattle.std.specs.Prelude.{◌≡◌, ◌<◌, ◌^◌, ℕ, Bool, List, Option, None, Some, Ok, Err};
 ghost use Rattle.audit_report.specs.declared.ending.Ending.TheVariants as endings;
 ghost use Rattle.key_ring.specs.Rings.{Ring};
+ghost use Rattle.capture_audit.specs.declared.asks.Asks.{Asks};
 ghost use Rattle.capture_audit.specs.declared.end.AuditEnd.TheVariants as ends;
 ghost use Rattle.capture_audit.specs.Ends.{RisesAt};
 ghost use Rattle.capture_audit.specs.inside.Auditing.{CanRead, IsAuditing, ReadsOne, ReadsUp, ending_of, limit_of};
@@ -28,9 +29,9 @@ pub fn read_packets<T: Threads + Sync, S: Source, K: Sink>(
     sink: &mut K,
 ) -> Result<Ending, AuditEnd>
     requires can { CanRead reader.old auditor.old batch.old }
-    ensures reads { (shows : Bool) (ring : Ring) (told held : Option (List ℕ))
-        → IsAuditing shows ring told held reader.old (S.left source.old) (K.held sink.old) auditor.old batch.old
-        → ReadsUp shows ring told held (S.left source.new) (K.held sink.new) auditor.new batch.new result }
+    ensures reads { (asks : Asks) (ring : Ring) (told held : Option (List ℕ))
+        → IsAuditing asks ring told held reader.old (S.left source.old) (K.held sink.old) auditor.old batch.old
+        → ReadsUp asks ring told held (S.left source.new) (K.held sink.new) auditor.new batch.new result }
     ensures read_fault { RisesAt (Ok endings.Fault) (S.faults source.old) (S.faults source.new) result }
     ensures write_fault { RisesAt (Err ends.WriteFault) (K.faults sink.old) (K.faults sink.new) result }
 {
@@ -52,9 +53,9 @@ fn read_one<T: Threads + Sync, S: Source, K: Sink>(
     sink: &mut K,
 ) -> Result<Option<Ending>, AuditEnd>
     requires can { CanRead reader.old auditor.old batch.old }
-    ensures reads { (shows : Bool) (ring : Ring) (told held : Option (List ℕ))
-        → IsAuditing shows ring told held reader.old (S.left source.old) (K.held sink.old) auditor.old batch.old
-        → ReadsOne shows ring told held reader.new (S.left source.new) (K.held sink.new) auditor.new batch.new result }
+    ensures reads { (asks : Asks) (ring : Ring) (told held : Option (List ℕ))
+        → IsAuditing asks ring told held reader.old (S.left source.old) (K.held sink.old) auditor.old batch.old
+        → ReadsOne asks ring told held reader.new (S.left source.new) (K.held sink.new) auditor.new batch.new result }
     ensures can { result ≡ Ok None → CanRead reader.new auditor.new batch.new }
     ensures more { result ≡ Ok None → reader.old.supply.given < reader.new.supply.given }
     ensures few { result ≡ Ok None → reader.new.supply.given < 2 ^ 32 }

@@ -7,10 +7,9 @@ ghost use Rattle.audit_report.specs.Verdicts.{doubt};
 ghost use Rattle.key_ring.specs.Reading.{ReadsRing};
 ghost use Rattle.key_ring.specs.Rings.{Ring};
 ghost use Rattle.lan_base.specs.Faults.{Rose};
-ghost use Rattle.capture_audit.specs.declared.asks.Asks.{Asks};
 ghost use Rattle.capture_audit.specs.declared.end.AuditEnd.TheVariants as ends;
 ghost use Rattle.capture_audit.specs.Before.{Unwrapped};
-ghost use Rattle.capture_audit.specs.Ends.{EndsAudit, IsBroken, IsOfOutside, RisesAt, end_for, end_of};
+ghost use Rattle.capture_audit.specs.Ends.{EndsAudit, IsBroken, IsOfOutside, IsRefuted, RisesAt, end_for, end_of};
 ghost use Rattle.capture_audit.specs.Reading.{IsRead};
 ghost use Rattle.capture_audit.specs.Telling.{all_told, numbered_hand};
 ghost use Rattle.capture_audit.specs.Views.{Views, end_seen};
@@ -19,6 +18,7 @@ ghost use Rattle.capture_audit.specs.inside.Batches.{IsReady, StandsAt};
 ghost use Rattle.capture_audit.specs.inside.Keeping.{IsSound};
 ghost use Rattle.capture_audit.specs.inside.Viewing.{ReadsCapture};
 
+use crate::asks::Asks;
 use crate::auditing::{end_of, open};
 use crate::auditor::Auditor;
 use crate::batch::Batch;
@@ -62,7 +62,7 @@ pub fn view_audit<T: Threads + Sync, S: Source>(
     ensures broken { (asks : Asks) (text : List ℕ) (ring : Ring) (packets : List Unwrapped) (i j : ℕ)
         → S.left source.old ≡ Some text → IsRead text (Some []) ring packets endings.Whole
         → IsBroken ring packets i j
-        → (end_seen asks.strict result ≡ Err ends.Refuted)
+        → IsRefuted ring packets (Rose (S.faults source.old) (S.faults source.new)) (end_seen asks.strict result)
         ⊎ IsOfOutside asks (Rose (S.faults source.old) (S.faults source.new)) (end_seen asks.strict result) }
     ensures clean { (asks : Asks) (text : List ℕ) (ring : Ring) (packets : List Unwrapped)
         → S.left source.old ≡ Some text → IsRead text (Some []) ring packets endings.Whole
@@ -75,8 +75,8 @@ pub fn view_audit<T: Threads + Sync, S: Source>(
     view_with(rt, alloc, ring, supply, source)
 }
 
-/// How an audit ends of whose capture this is seen, where it is asked or not that no protected frame is
-/// wrong or undecided.
+/// How an audit ends of whose capture this is seen, where it is asked or not that a protected frame is right,
+/// and none wrong or undecided.
 pub fn end_of_view(view: &AuditView, strict: bool) -> Result<(), AuditEnd>
     ensures { result ≡ end_seen strict (Ok view.now) }
 {
@@ -120,9 +120,14 @@ fn view_keyed<T: Threads + Sync, S: Source>(
         → Rose (S.faults source.old) (S.faults source.new)) }
     ensures unwritten { result ≢ Err ends.WriteFault }
 {
+    let asks = Asks {
+        shows: false,
+        strict: false,
+        keys: false,
+    };
     let mut text = Vec::new(alloc);
-    let mut auditor = Auditor::of(alloc, ring, &mut text)?;
-    let mut batch = Batch::new(alloc, false, text);
+    let mut auditor = Auditor::of(alloc, ring, asks.keys, &mut text)?;
+    let mut batch = Batch::new(alloc, asks, text);
     let read = read_capture(rt, alloc, supply, source, &mut auditor, &mut batch);
     view_of(alloc, &mut auditor, hand, read)
 }
@@ -139,11 +144,11 @@ fn read_capture<T: Threads + Sync, S: Source>(
     requires sound { IsSound auditor.old }
     requires ready { IsReady auditor.old.groups batch.old }
     requires room { auditor.old.tally.all + length batch.old.waiting.items ≤ 0 }
-    ensures reads { (shows : Bool) (text : List ℕ) (ring : Ring)
+    ensures reads { (asks : Asks) (text : List ℕ) (ring : Ring)
         → ReadsRing text (S.left source.old) (Ok (ring, supply))
-        → StandsAt shows ring [] [] [] auditor.old batch.old
+        → StandsAt asks ring [] [] [] auditor.old batch.old
         → ReadsCapture text ring (S.left source.new) auditor.new result }
-    ensures read_fault { (shows : Bool) (ring : Ring) → StandsAt shows ring [] [] [] auditor.old batch.old
+    ensures read_fault { (asks : Asks) (ring : Ring) → StandsAt asks ring [] [] [] auditor.old batch.old
         → result ≡ Err ends.ReadFault → Rose (S.faults source.old) (S.faults source.new) }
     ensures fault { RisesAt (Ok endings.Fault) (S.faults source.old) (S.faults source.new) result }
     ensures unwritten { result ≢ Err ends.WriteFault }
@@ -162,9 +167,9 @@ fn read_quietly<T: Threads + Sync, S: Source>(
     batch: &mut Batch,
 ) -> Result<Ending, AuditEnd>
     requires can { CanRead reader.old auditor.old batch.old }
-    ensures reads { (shows : Bool) (ring : Ring) (told : Option (List ℕ))
-        → IsAuditing shows ring told None reader.old (S.left source.old) None auditor.old batch.old
-        → ReadsUp shows ring told None (S.left source.new) None auditor.new batch.new result }
+    ensures reads { (asks : Asks) (ring : Ring) (told : Option (List ℕ))
+        → IsAuditing asks ring told None reader.old (S.left source.old) None auditor.old batch.old
+        → ReadsUp asks ring told None (S.left source.new) None auditor.new batch.new result }
     ensures fault { RisesAt (Ok endings.Fault) (S.faults source.old) (S.faults source.new) result }
     ensures unwritten { result ≢ Err ends.WriteFault }
 {

@@ -13,7 +13,7 @@ use Rattle.known_keys.specs.History.{Entry, keys}
 use Rattle.known_keys.specs.Numbered.{number_in}
 use Rattle.use_notes.specs.declared.frame.RightFrame.{RightFrame}
 use Rattle.use_notes.specs.declared.novelty.Novelty.TheVariants.{New}
-use Rattle.use_notes.specs.Frames.{first_of, frames_of, is_of, note_here, note_of, novelty_after, novelty_in}
+use Rattle.use_notes.specs.Frames.{first_alike, first_of, frames_of, is_of, note_here, note_of, novelty_after, novelty_in}
 use Rattle.sak_exchange.proofs.Public.{by_test}
 use Rattle.lan_core.specs.declared.settings.Settings.{Settings}
 use Rattle.lan_core.specs.Run.{Happening, Profile, Run, started, stations}
@@ -106,7 +106,8 @@ pub new-frame : (h : List RightFrame) (e : RightFrame)
     → ((f : RightFrame) → In f h → f.key ≡ e.key → f.sci ≡ e.sci → f.pn ≡ e.pn → ⊥)
     → novelty_in h e ≡ New
 new-frame h e other =
-    ap (λ o. novelty_after o e) (none-first e.pn (frames_of e.key e.sci h) (λ f i same.
+    ap (λ o. novelty_after o (first_alike e.pn e.check (frames_of e.key e.sci h)))
+    (none-first e.pn (frames_of e.key e.sci h) (λ f i same.
     let both = in-filtered (is_of e.key e.sci) h f i in
     let parts = and_parts (f.key == e.key) (same_sci f.sci e.sci) both.1 in
     other f both.0 (eqb-true f.key e.key parts.0) (same-sci-equal f.sci e.sci parts.1) same))

@@ -1,8 +1,8 @@
 -- The frame of a claim as a packet: a protected frame with the fields of the claim, which its key opens.
 use Rattle.std.proofs.Common.{◌≡◌, ◌<◌, ◌≤◌, ◌+◌, ◌^◌, refl, sym, ap, ◌∙◌, inl, inr, ℕ, List, length}
 use Rattle.std.proofs.Common.{Bool, true, false, cond, not, ◌&&◌, Option, Some, None, Ok, arith}
-use Rattle.std.specs.Prelude.{◌==◌, nat_le, nat_lt, slice_index}
-use Rattle.std.proofs.lemmas.Bool.{and_parts, eqb-true, ltb-true, true≢false}
+use Rattle.std.specs.Prelude.{◌==◌, ◌||◌, nat_le, nat_lt, slice_index}
+use Rattle.std.proofs.lemmas.Bool.{and_parts, eqb-true, ltb-true}
 use Rattle.lan_base.specs.Ranges.{most_frame_octets}
 use Rattle.lan_base.specs.declared.association_number.AssociationNumber.{AssociationNumber}
 use Rattle.lan_base.specs.declared.address.Sci.{Sci}
@@ -51,13 +51,15 @@ pub record AreProtected : Type 0 where
 
 -- ---- what is read where the SCI must stand there is read where it may be implied
 
-not-both : (a b : Bool) → not (are_same a b) ≡ true → not (a && b) ≡ true
-not-both true true e = absurd (true≢false (sym e))
-not-both true false e = refl
-not-both false b e = refl
+-- with an SCI neither ES nor SCB is set
+not-all : (b e s : Bool) → not b ≡ true → not (are_same e s) ≡ true → not (s && (e || b)) ≡ true
+not-all b e false x y = refl
+not-all true e true x y = absurd (cc x)
+not-all false true true x y = absurd (cc y)
+not-all false false true x y = refl
 
-and-three : (a b c : Bool) → a ≡ true → b ≡ true → c ≡ true → (a && b && c) ≡ true
-and-three a b c x y z = rw (x, y, z) refl
+and-two : (a b : Bool) → a ≡ true → b ≡ true → (a && b) ≡ true
+and-two a b x y = rw (x, y) refl
 
 implied-mode : (frame : List ℕ) → is_mode frame ≡ true → is_implied_mode frame ≡ true
 implied-mode frame e =
@@ -65,9 +67,9 @@ implied-mode frame e =
     (are_same (is_enciphered frame) (is_changed frame)) e in
     let parts = and_parts (not (is_broadcast frame)) (not (are_same (is_end_station frame) (has_sci frame)))
     front.0 in
-    and-three (not (is_broadcast frame)) (not (is_end_station frame && has_sci frame))
-    (are_same (is_enciphered frame) (is_changed frame)) parts.0
-    (not-both (is_end_station frame) (has_sci frame) parts.1) front.1
+    and-two (not (has_sci frame && (is_end_station frame || is_broadcast frame)))
+    (are_same (is_enciphered frame) (is_changed frame))
+    (not-all (is_broadcast frame) (is_end_station frame) (has_sci frame) parts.0 parts.1) front.1
 
 -- what is refused in neither mode
 same-refused : (frame : List ℕ) (mode other : Bool) → (mode ≡ true → other ≡ true)

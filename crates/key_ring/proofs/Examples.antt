@@ -6,7 +6,7 @@ use Rattle.aes_block.specs.declared.secret.Secret.TheVariants.{S128, S256}
 use Rattle.known_keys.specs.declared.sender.Sender.TheVariants.{Any, One}
 use Rattle.lan_base.specs.declared.association_number.AssociationNumber.TheVariants.{An0, An3}
 use Rattle.packet_verdicts.specs.Groups.{derived_keys}
-use Rattle.trace_text.specs.declared.fault.TextFault.TheVariants.{Hex, Word}
+use Rattle.trace_text.specs.declared.fault.TextFault.TheVariants.{Count, Hex, Word}
 use Rattle.audit_text.specs.Reading.{key_line_in}
 use Rattle.key_ring.specs.Rings.{no_ring, ring_in}
 use Rattle.key_ring.specs.Reading.{file_in}
@@ -28,7 +28,31 @@ unfolding key_line_in hex_on_literals
 one_group = refl
 
 its_capture : file_in (group_line ++ 10 ∷ section_front) ≡ section_front
+unfolding key_line_in hex_on_literals
 its_capture = refl
+
+-- and behind a line `capture`, which adds nothing
+group_and_capture : ring_in (group_line ++ 10 ∷ codes "capture" ++ 10 ∷ codes "key" ++ 10 ∷ [])
+    ≡ Ok (record { groups = derived_keys sixteen (1 ∷ 2 ∷ 3 ∷ 4 ∷ []) ∷ []; hand = [] })
+unfolding key_line_in hex_on_literals
+group_and_capture = refl
+
+behind_its_line : file_in (group_line ++ 10 ∷ codes "capture" ++ 10 ∷ codes "key" ++ 10 ∷ []) ≡ codes "key" ++ 10 ∷ []
+unfolding key_line_in hex_on_literals
+behind_its_line = refl
+
+-- as the last line without a line feed it is a line, too, and what has words behind it is refused
+capture_alone : ring_in (codes "capture") ≡ Ok no_ring
+unfolding key_line_in
+capture_alone = refl
+
+with_words : ring_in (codes "capture # x" ++ 10 ∷ section_front) ≡ Err (record { line = 1; why = Count })
+unfolding key_line_in
+with_words = refl
+
+before_it : ring_in (codes "key" ++ 10 ∷ codes "capture" ++ 10 ∷ section_front) ≡ Err (record { line = 1; why = Word })
+unfolding key_line_in
+before_it = refl
 
 -- alone it has no capture, with a line feed or without
 alone : ring_in group_line ≡ Ok (record { groups = derived_keys sixteen (1 ∷ 2 ∷ 3 ∷ 4 ∷ []) ∷ []; hand = [] })
@@ -36,6 +60,7 @@ unfolding key_line_in hex_on_literals
 alone = refl
 
 no_capture : file_in (group_line ++ 10 ∷ []) ≡ []
+unfolding key_line_in hex_on_literals
 no_capture = refl
 
 -- a line without its line feed, directly before a section: the section's first octet ends it, and the

@@ -7,7 +7,7 @@ use Rattle.aes_block.proofs.Public.{AreOctets}
 use Rattle.audit_text.specs.InForm.{IsInFormKey}
 use Rattle.audit_text.specs.Reading.{key_line_in}
 use Rattle.audit_text.specs.declared.line.KeyLine.{KeyLine}
-use Rattle.audit_text.specs.declared.line.KeyLine.TheVariants.{Group, Sak}
+use Rattle.audit_text.specs.declared.line.KeyLine.TheVariants.{Capture, Group, Sak}
 use Rattle.audit_text.proofs.Public.{key_read_fits}
 use Rattle.packet_verdicts.specs.Groups.{GroupKeys, derived_keys}
 use Rattle.trace_text.specs.declared.fault.TextFault.{TextFault}
@@ -28,6 +28,7 @@ line-keyed blocks n (Group cak ckn) ring (key, its_name) keyed =
     (All-cons HasKey (derived_keys cak ckn) [] (kek-is-key blocks cak ckn key.0 (octets-from cak key.1) (octets-from ckn its_name.2))
     (All-nil HasKey))
 line-keyed blocks n (Sak sender an sak) ring fit keyed = keyed
+line-keyed blocks n Capture ring fit keyed = keyed
 
 pub lines-keyed : AreBlocks → (n : ℕ) (lines : List (List ℕ)) (ring said : Ring) → AreKeyed ring
     → ring_from n lines ring ≡ Ok said → AreKeyed said

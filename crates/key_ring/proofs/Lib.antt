@@ -3,5 +3,4 @@ pub mod KeyFronts
 pub mod Steps
 pub mod DerivedKeys
 pub mod KeyedRings
-pub mod Public
 mod Examples

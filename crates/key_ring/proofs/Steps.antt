@@ -1,6 +1,6 @@
 -- The key text is read line by line, up to the capture.
 use Rattle.std.proofs.Common.{◌≡◌, ◌≢◌, ℕ, suc, ◌+◌, ◌≤◌, true, false, List, [], ◌∷◌, ◌++◌, length, take, drop, Ok, Err, Some, None, refl, sym, ap, ◌∙◌, subst, append_assoc, length-append, arith, inl}
-use Rattle.std.specs.Prelude.{Option, Result}
+use Rattle.std.specs.Prelude.{Bool, IfOk, OnErr, OnOk, Option, Result, if◌then◌else◌}
 use Rattle.std.proofs.lemmas.List.{append-nil, append_cancel_left, take_all}
 use Rattle.std.proofs.lemmas.List.Elements.{All-append, All-cons, All-nil}
 use Rattle.lan_base.specs.declared.source.ReadEnd.{ReadEnd}
@@ -15,16 +15,17 @@ use Rattle.trace_text.specs.declared.fault.TextFault.{TextFault}
 use Rattle.trace_text.specs.declared.fault.TextFault.TheVariants.{TooLong}
 use Rattle.audit_text.specs.declared.line.KeyLine.{KeyLine}
 use Rattle.audit_text.specs.declared.parting.Part.TheVariants as parts
-use Rattle.audit_text.specs.Parting.{IsLast, IsLine, IsLong, IsUnparted, Parts, begins, capture_behind, key_text}
+use Rattle.audit_text.specs.Parting.{IsLast, IsLine, IsLong, IsUnparted, Parts, begins, capture_behind, is_capture, key_text, says_capture}
+use Rattle.audit_text.proofs.Public.{BeginsLong, HasNoFeed, begins-long, behind-line, here, keys-before, line-alone, line-first, lines-append, open-behind, unparted-none}
 use Rattle.audit_text.specs.Reading.{key_line_in}
 use Rattle.key_ring.specs.Reading.{RingEnd}
 use Rattle.text_lines.specs.declared.reading.End.TheVariants as ends
-use Rattle.key_ring.specs.Rings.{Ring, no_ring, ring_by, ring_from, ring_in}
+use Rattle.key_ring.specs.Rings.{Ring, no_ring, ring_by, ring_from, ring_in, with_line}
 use Rattle.key_ring.specs.Reading.{IsUnfinished, ReadsRing, file_in}
 use Rattle.text_lines.specs.Ends.{end_of}
 use Rattle.key_ring.specs.inside.Steps.{Adds, AddsLine}
-use Rattle.key_ring.proofs.Lines.{BeginsLong, HasNoFeed, begins-long, empty-line, line-alone, line-first, lines-append, open-behind, ring-append, too-long}
-use Rattle.key_ring.proofs.KeyFronts.{IsKeyFront, front-keys, front-more, front-none, goes-on, keys-before, keys-in-line, none-here, rest-is, unparted-none}
+use Rattle.key_ring.proofs.Lines.{empty-line, ring-append, too-long}
+use Rattle.key_ring.proofs.KeyFronts.{IsKeyFront, front-keys, front-more, front-none, goes-on, keys-in-line, none-here, rest-is}
 
 -- of a text these octets were given out, which are whole lines of its key text: so many, which say this
 pub record HasRead (text : List ℕ) (number : ℕ) (ring : Ring) (supply : Held) (left : Option (List ℕ))
@@ -64,18 +65,18 @@ visible text number ring supply left h = (within most_input text h.given supply 
 
 -- the file is in what is ahead
 file-ahead : (text given behind rest : List ℕ) → take most_input text ≡ given ++ behind → text ≡ given ++ rest
-    → IsKeyFront given rest → file_in text ≡ capture_behind true behind
+    → IsKeyFront given rest → file_in text ≡ capture_behind behind
 file-ahead text given behind rest seen whole front =
-    ap (capture_behind true) seen
+    ap capture_behind seen
     ∙ front.capture behind (drop most_input text) (rest-is most_input text given behind rest seen whole)
 
 -- what lines say, behind those that were read
 said-by : (text given rest : List ℕ) (ring : Ring) (keys : List ℕ) → text ≡ given ++ rest → IsKeyFront given rest
-    → open_line [] given ≡ [] → ring_from 1 (lines_of given) no_ring ≡ Ok ring → key_text true rest ≡ keys
+    → open_line [] given ≡ [] → ring_from 1 (lines_of given) no_ring ≡ Ok ring → key_text rest ≡ keys
     → ring_in text ≡ ring_from (1 + length (lines_of given)) (lines_of keys) ring
 said-by text given rest ring keys whole front ended said are =
     ap (λ (t : List ℕ). ring_from 1 (lines_of t) no_ring)
-    (ap (key_text true) whole ∙ front-keys given rest rest [] front (sym (append-nil rest))
+    (ap key_text whole ∙ front-keys given rest rest [] front (sym (append-nil rest))
     ∙ ap (λ (k : List ℕ). given ++ k) are)
     ∙ ap (λ (ls : List (List ℕ)). ring_from 1 ls no_ring) (lines-append given keys ended)
     ∙ ring-append 1 (lines_of given) (lines_of keys) no_ring ring said
@@ -86,16 +87,14 @@ pub at-capture : (text : List ℕ) (number : ℕ) (ring : Ring) (supply new : He
     (line : List ℕ) (h : HasRead text number ring supply left)
     → Parts most_input text h.given (ahead text number ring supply left h) line new later (Ok parts.Capture)
     → ReadsRing text later (Ok (ring, Some new))
-at-capture text number ring supply new left later line h (stands, is, some) =
+at-capture text number ring supply new left later line h (stands, is) =
     let behind = ahead text number ring supply left h in
     let seen = visible text number ring supply left h in
     let more = rest-is most_input text h.given behind h.rest seen h.whole in
-    let none : key_text true h.rest ≡ [] =
-    keys-before h.rest [] h.rest refl (ap (capture_behind true) more
-    ∙ goes-on behind (drop most_input text) is some ∙ sym more) in
-    let file : file_in text ≡ behind = file-ahead text h.given behind h.rest seen h.whole h.front ∙ is in (
+    let none : key_text h.rest ≡ [] = ap key_text more ∙ (goes-on behind (drop most_input text) is).0 in
+    let file : file_in text ≡ behind =
+    file-ahead text h.given behind h.rest seen h.whole h.front ∙ (here behind is).1 in (
       said-by text h.given h.rest ring [] h.whole h.front h.ended h.said none,
-      (λ empty. some (sym file ∙ empty)),
       (h.given, stands, seen ∙ ap (λ (f : List ℕ). h.given ++ f) (sym file)),
     )
 
@@ -109,7 +108,7 @@ unfinished text given more rest later ring parts front ended said un = record {
   more = more;
   parts = refl;
   none = front.capture more later parts ∙ unparted-none more un;
-  starts = front.starts;
+  starts = ended;
   ring = ring;
   read = said;
   unparted = un;
@@ -136,6 +135,16 @@ at-end text number ring supply new left later line readings.Memory h p = tt
 
 -- ---- a line
 
+pub adds-said : (n : ℕ) (text : List ℕ) (line : KeyLine) (old new : Ring) (r : Result Bool RingEnd)
+    → key_line_in text ≡ Ok (Some line) → OnOk r (new ≡ with_line n line old)
+    → OnErr r ((r ≡ Err ends.Memory) × (new ≡ old)) → IfOk r (λ last. last ≡ is_capture (Ok (Some line)))
+    → AddsLine n text old new r
+adds-said n text line old new (Ok last) said added kept is = rw said (added, is)
+adds-said n text line old new (Err ends.Memory) said added kept is = kept.1
+adds-said n text line old new (Err (ends.Refused why)) said added kept is = absurd (cc kept.0)
+adds-said n text line old new (Err ends.Limit) said added kept is = absurd (cc kept.0)
+adds-said n text line old new (Err ends.ReadFault) said added kept is = absurd (cc kept.0)
+
 -- the number of the next line
 next-number : (given : List ℕ) (number next : ℕ) → number ≡ length (lines_of given) → next ≡ number + 1
     → next ≡ 1 + length (lines_of given)
@@ -157,7 +166,7 @@ record GoesOn (rest octets line : List ℕ) : Type 0 where
   pub parts : rest ≡ octets ++ 10 ∷ later
   pub none : HasNoFeed octets
   pub line_is : line ≡ without_return octets
-  pub begins : begins true rest ≡ false
+  pub begins : begins rest ≡ false
 
 goes-by : (text given behind rest line : List ℕ) (new : Held) (left : Option (List ℕ))
     → take most_input text ≡ given ++ behind → text ≡ given ++ rest
@@ -176,9 +185,9 @@ goes-by text given behind rest line new left seen whole l = record {
 pub after-line : (text : List ℕ) (number next : ℕ) (ring then_ring : Ring) (supply new : Held)
     (left later : Option (List ℕ)) (line : List ℕ) (h : HasRead text number ring supply left)
     → IsLine most_input text h.given (ahead text number ring supply left h) line new later
-    → next ≡ number + 1 → Adds next (key_line_in line) ring then_ring
+    → next ≡ number + 1 → Adds next (key_line_in line) ring then_ring → says_capture line ≡ false
     → HasRead text next then_ring new later
-after-line text number next ring then_ring supply new left later line h l is adds =
+after-line text number next ring then_ring supply new left later line h l is adds says =
     let behind = ahead text number ring supply left h in
     let seen = visible text number ring supply left h in
     let g = goes-by text h.given behind h.rest line new later seen h.whole l in
@@ -194,7 +203,8 @@ after-line text number next ring then_ring supply new left later line h l is add
       whole = h.whole ∙ ap (λ (r : List ℕ). h.given ++ r) g.parts
           ∙ ap (λ (r : List ℕ). h.given ++ r) (sym (append_assoc l.octets (10 ∷ []) g.later))
           ∙ sym (append_assoc h.given (l.octets ++ 10 ∷ []) g.later);
-      front = front-more h.given h.rest l.octets g.later h.front g.none g.begins g.parts;
+      front = front-more h.given h.rest l.octets g.later h.front g.none g.begins g.parts
+          (sym (ap says_capture g.line_is) ∙ says);
       ended = open-behind h.given l.octets h.ended g.none;
       said = ap (λ (ls : List (List ℕ)). ring_from 1 ls no_ring) lines
           ∙ ring-append 1 (lines_of h.given) (line ∷ []) no_ring ring h.said
@@ -203,6 +213,40 @@ after-line text number next ring then_ring supply new left later line h l is add
       count = let a = length-append (lines_of h.given) (line ∷ []) in
           let b = ap length lines in omega (arith, n, a, b);
     }
+
+-- it says that the capture begins
+pub at-capture-line : (text : List ℕ) (number next : ℕ) (ring then_ring : Ring) (supply new : Held)
+    (left later : Option (List ℕ)) (line : List ℕ) (h : HasRead text number ring supply left)
+    → IsLine most_input text h.given (ahead text number ring supply left h) line new later
+    → next ≡ number + 1 → Adds next (key_line_in line) ring then_ring → says_capture line ≡ true
+    → ReadsRing text later (Ok (then_ring, Some new))
+at-capture-line text number next ring then_ring supply new left later line h l is adds says =
+    let behind = ahead text number ring supply left h in
+    let seen = visible text number ring supply left h in
+    let g = goes-by text h.given behind h.rest line new later seen h.whole l in
+    let n = next-number h.given number next h.count is in
+    let first = l.octets ++ 10 ∷ [] in
+    let keys : key_text h.rest ≡ first =
+    ap key_text g.parts
+    ∙ (behind-line l.octets g.later g.none (sym (ap begins g.parts) ∙ g.begins)).0
+    ∙ ap (λ (b : Bool). first ++ (if b then [] else key_text g.later)) (sym (ap says_capture g.line_is) ∙ says)
+    ∙ append-nil first in
+    let file : file_in text ≡ l.later =
+    file-ahead text h.given behind h.rest seen h.whole h.front ∙ l.capture
+    ∙ ap (λ (b : Bool). if b then l.later else capture_behind l.later) says in (
+      said-by text h.given h.rest ring first h.whole h.front h.ended h.said keys
+          ∙ ap (λ (m : ℕ). ring_from m (lines_of first) ring) (sym n)
+          ∙ ap (λ (ls : List (List ℕ)). ring_from next ls ring)
+          (line-first l.octets [] g.none ∙ ap (λ (o : List ℕ). o ∷ []) (sym g.line_is))
+          ∙ adds-one next (key_line_in line) ring then_ring adds,
+      (
+        h.given ++ first,
+        l.stands,
+        seen ∙ ap (λ (b : List ℕ). h.given ++ b) (l.parts ∙ sym (append_assoc l.octets (10 ∷ []) l.later))
+            ∙ sym (append_assoc h.given first l.later)
+            ∙ ap (λ (f : List ℕ). (h.given ++ first) ++ f) (sym file),
+      ),
+    )
 
 -- it is refused
 line-refused : (text : List ℕ) (number next : ℕ) (ring : Ring) (supply new : Held)
@@ -215,15 +259,16 @@ line-refused text number next ring supply new left later line why h l is refused
     let seen = visible text number ring supply left h in
     let g = goes-by text h.given behind h.rest line new later seen h.whole l in
     let n = next-number h.given number next h.count is in
-    let front = front-more [] h.rest l.octets g.later (front-none h.rest) g.none g.begins g.parts in
-    let keys : key_text true h.rest ≡ l.octets ++ 10 ∷ key_text true g.later =
-    ap (key_text true) (g.parts ∙ sym (append_assoc l.octets (10 ∷ []) g.later))
+    let front = front-more [] h.rest l.octets g.later (front-none h.rest) g.none g.begins g.parts
+    (sym (ap says_capture g.line_is) ∙ ap is_capture refused) in
+    let keys : key_text h.rest ≡ l.octets ++ 10 ∷ key_text g.later =
+    ap key_text (g.parts ∙ sym (append_assoc l.octets (10 ∷ []) g.later))
     ∙ front-keys (l.octets ++ 10 ∷ []) g.later g.later [] front (sym (append-nil g.later))
-    ∙ append_assoc l.octets (10 ∷ []) (key_text true g.later) in
+    ∙ append_assoc l.octets (10 ∷ []) (key_text g.later) in
     said-by text h.given h.rest ring _ h.whole h.front h.ended h.said keys
-    ∙ ap (λ (m : ℕ). ring_from m (lines_of (l.octets ++ 10 ∷ key_text true g.later)) ring) (sym n)
-    ∙ ap (λ (ls : List (List ℕ)). ring_from next ls ring) (line-first l.octets (key_text true g.later) g.none)
-    ∙ refuses-one next (without_return l.octets) (lines_of (key_text true g.later)) ring why
+    ∙ ap (λ (m : ℕ). ring_from m (lines_of (l.octets ++ 10 ∷ key_text g.later)) ring) (sym n)
+    ∙ ap (λ (ls : List (List ℕ)). ring_from next ls ring) (line-first l.octets (key_text g.later) g.none)
+    ∙ refuses-one next (without_return l.octets) (lines_of (key_text g.later)) ring why
     (ap key_line_in (sym g.line_is) ∙ refused)
 
 -- a long line is refused
@@ -258,10 +303,10 @@ long-refused text number next ring supply left line why h l is refused =
     let none : HasNoFeed front = All-append (λ (o : ℕ). o ≢ 10) line (l.octet ∷ []) l.within.none
     (All-cons (λ (o : ℕ). o ≢ 10) l.octet [] l.other (All-nil (λ (o : ℕ). o ≢ 10))) in
     let some : front ≢ [] = λ empty. let c = ap length empty in omega (arith, c, count) in
-    let k = keys-in-line front more some none
-    (sym (ap (begins true) parts) ∙ none-here most_input text h.given behind h.rest seen h.whole l.none (inl many)) in
+    let k = keys-in-line front more none
+    (sym (ap begins parts) ∙ none-here most_input text h.given behind h.rest seen h.whole l.none (inl many)) in
     let own : why ≡ TooLong = cc (sym refused ∙ too-long line (omega (arith, full))) in
-    said-by text h.given h.rest ring _ h.whole h.front h.ended h.said (ap (key_text true) parts ∙ k.parts)
+    said-by text h.given h.rest ring _ h.whole h.front h.ended h.said (ap key_text parts ∙ k.parts)
     ∙ ap (λ (m : ℕ). ring_from m (lines_of (front ++ k.more)) ring) (sym n)
     ∙ long-read next (length front) (front ++ k.more) ring why (begins-long front k.more some none)
     (omega (arith, count)) own
@@ -278,9 +323,9 @@ last-said text number next ring supply left later line h l is =
     let n = next-number h.given number next h.count is in
     let same : h.rest ≡ behind =
     append_cancel_left h.given h.rest behind (sym h.whole ∙ sym (take_all most_input text l.few) ∙ seen) in
-    let keys : key_text true h.rest ≡ line =
-    ap (key_text true) (same ∙ l.all)
-    ∙ keys-before line line [] (sym (append-nil line)) (sym (ap (capture_behind true) l.all) ∙ l.capture) in
+    let keys : key_text h.rest ≡ line =
+    ap key_text (same ∙ l.all)
+    ∙ keys-before line line [] (sym (append-nil line)) (sym (ap capture_behind l.all) ∙ l.capture) in
     said-by text h.given h.rest ring line h.whole h.front h.ended h.said keys
     ∙ ap (λ (m : ℕ). ring_from m (lines_of line) ring) (sym n)
     ∙ ap (λ (ls : List (List ℕ)). ring_from next ls ring) (line-alone line l.within.none)

@@ -1,5 +1,5 @@
 -- What the key text says: groups, and keys that are set by hand.
-use Rattle.std.specs.Prelude.{ℕ, suc, ◌==◌, true, if◌then◌else◌, List, [], ◌∷◌, ◌++◌, length, All, Option, Some, None, unwrap_or, Result, Ok, Err}
+use Rattle.std.specs.Prelude.{ℕ, suc, ◌==◌, if◌then◌else◌, List, [], ◌∷◌, ◌++◌, length, All, Option, Some, None, unwrap_or, Result, Ok, Err}
 use Rattle.aes_block.specs.Aes.{IsKey}
 use Rattle.aes_block.specs.declared.secret.Secret.{Secret}
 use Rattle.aes_block.specs.declared.secret.Secret.TheVariants.{S128, S256}
@@ -8,7 +8,7 @@ use Rattle.lan_base.specs.AssociationNumbers.{numbered}
 use Rattle.text_lines.specs.Texts.{lines_of}
 use Rattle.trace_text.specs.declared.fault.TextFault.{TextFault}
 use Rattle.audit_text.specs.declared.line.KeyLine.{KeyLine}
-use Rattle.audit_text.specs.declared.line.KeyLine.TheVariants.{Group, Sak}
+use Rattle.audit_text.specs.declared.line.KeyLine.TheVariants.{Capture, Group, Sak}
 use Rattle.audit_text.specs.declared.line.Sender.{Sender}
 use Rattle.audit_text.specs.declared.line.Sender.TheVariants as read
 use Rattle.audit_text.specs.Parting.{key_text}
@@ -50,6 +50,7 @@ with_line n (Sak sender an sak) ring = record ring {
     sak = secret_of sak;
   } ∷ [];
 }
+with_line n Capture ring = ring
 
 -- the first line that is refused, from 1
 pub record LineFault : Type 0 where
@@ -69,4 +70,4 @@ ring_from n (line ∷ lines) ring = ring_by (ring_from (suc n) lines) n ring (ke
 
 -- what the key text before a capture says, or its first fault
 abbrev pub ring_in : List ℕ → Result Ring LineFault
-ring_in text = ring_from 1 (lines_of (key_text true text)) no_ring
+ring_in text = ring_from 1 (lines_of (key_text text)) no_ring

@@ -1,10 +1,11 @@
 //! The key text before a capture: groups, and keys that are set by hand.
 
-ghost use Rattle.std.specs.Prelude.{◌≡◌, ◌⊎◌, ◌<◌, ◌≤◌, ◌+◌, ◌^◌, ℕ, List, [], length, Some, Err, IfOk, OnErr, OnOk};
+ghost use Rattle.std.specs.Prelude.{◌≡◌, ◌⊎◌, ◌<◌, ◌≤◌, ◌+◌, ◌^◌, ℕ, List, [], length, Some, Err, IfOk, Ok, OnErr, OnOk};
 ghost use Rattle.lan_base.specs.Faults.{Rose};
 ghost use Rattle.lan_base.specs.Ranges.{most_input};
 ghost use Rattle.octet_supply.specs.Supplying.{Stands, most_given};
 ghost use Rattle.audit_text.specs.InForm.{IsInFormKey};
+ghost use Rattle.audit_text.specs.Parting.{is_capture};
 ghost use Rattle.text_lines.specs.declared.reading.End.TheVariants as ends;
 ghost use Rattle.key_ring.specs.Rings.{AreKeyed, no_ring, secret_of, whose_of, with_line};
 ghost use Rattle.key_ring.specs.Reading.{ReadsRing};
@@ -62,7 +63,7 @@ impl KeyRing {
     }
 
     /// Reads the key text that a source begins with, and answers the octets behind it too, if a
-    /// capture begins there.
+    /// capture begins there: with a magic number, or behind the line `capture` whatever they are.
     pub fn read<S: Source>(
         alloc: Global,
         source: &mut S,
@@ -84,7 +85,7 @@ impl KeyRing {
         }
     }
 
-    /// Reads the lines of a key text, and answers whether a capture begins behind them. Behind an
+    /// Reads the lines of a key text, and answers whether a capture stands behind them. Behind an
     /// error it is not to be used.
     fn read_lines<S: Source>(
         &mut self,
@@ -109,31 +110,37 @@ impl KeyRing {
                 return Ok(true);
             };
             number += 1;
-            self.add_line(alloc, number, &line)?;
+            let ends = self.add_line(alloc, number, &line)?;
             let LineEnd::Feed = end else {
                 return Ok(false);
             };
+            if ends {
+                return Ok(true);
+            }
         }
     }
 
-    /// Adds what the line of this number says. An error leaves all as it was.
-    fn add_line(&mut self, alloc: Global, number: u32, text: &[u8]) -> Result<(), RingEnd>
+    /// Adds what the line of this number says, and answers whether it is `capture`, which ends the
+    /// key text. An error leaves all as it was.
+    fn add_line(&mut self, alloc: Global, number: u32, text: &[u8]) -> Result<bool, RingEnd>
         ensures adds { AddsLine number text.now self.old self.new result }
         ensures few { length self.new.groups ≤ length self.old.groups + 1 }
         ensures keyed { AreKeyed self.old → AreKeyed self.new }
     {
         match read_key_line(alloc, text) {
             Ok(Some(line)) => self.add(alloc, number, line),
-            Ok(None) => Ok(()),
+            Ok(None) => Ok(false),
             Err(LineError::Refused(why)) => Err(End::Refused((number, why))),
             Err(LineError::Memory) => Err(End::Memory),
         }
     }
 
-    /// Adds a line. An error, which is want of memory, leaves all as it was.
-    fn add(&mut self, alloc: Global, number: u32, line: KeyLine) -> Result<(), RingEnd>
+    /// Adds a line, and answers whether it ends the key text. An error, which is want of memory,
+    /// leaves all as it was.
+    fn add(&mut self, alloc: Global, number: u32, line: KeyLine) -> Result<bool, RingEnd>
         requires { IsInFormKey line }
         ensures added { OnOk result (self.new ≡ with_line number line self.old) }
+        ensures capture { IfOk result (λ last. last ≡ is_capture (Ok (Some line))) }
         ensures memory { OnErr result ((result ≡ Err ends.Memory) × (self.new ≡ self.old)) }
         ensures keyed { AreKeyed self.old → AreKeyed self.new }
     {
@@ -143,7 +150,7 @@ impl KeyRing {
                     .groups
                     .add(alloc, secret_of(cak.as_slice()), ckn.as_slice())
                 {
-                    Ok(()) => Ok(()),
+                    Ok(()) => Ok(false),
                     Err(_) => Err(End::Memory),
                 }
             }
@@ -154,8 +161,9 @@ impl KeyRing {
                     an: AssociationNumber::of(an).unwrap_or(AssociationNumber::An0),
                     sak: secret_of(sak.as_slice()),
                 })?;
-                Ok(())
+                Ok(false)
             }
+            KeyLine::Capture => Ok(true),
         }
     }
 }

@@ -1,10 +1,9 @@
 -- Spans under one number do not overlap.
 use Rattle.std.proofs.Common.{◌≡◌, ◌∙◌, ◌≤◌, ◌+◌, ℕ, Bool, true, false, List, [], ◌∷◌, ◌++◌, Option, Some, None, refl, sym, ap, subst, arith}
-use Rattle.std.specs.Prelude.{◌==◌, if◌then◌else◌, min, map, is_some, IsTrue}
+use Rattle.std.specs.Prelude.{if◌then◌else◌, min, map, is_some, IsTrue}
 use Rattle.std.specs.Option.{option_or}
 use Rattle.lan_base.specs.declared.association_number.AssociationNumber.{AssociationNumber}
 use Rattle.lan_core.specs.declared.fact.Fact.{Fact}
-use Rattle.lan_core.specs.declared.fact.Fact.TheVariants as shows
 use Rattle.transcript_reader.specs.Time.{moves}
 use Rattle.key_spans.specs.declared.clock.Clock.{Clock}
 use Rattle.key_spans.specs.declared.span.Span.{Span}

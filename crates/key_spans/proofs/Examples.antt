@@ -1,21 +1,26 @@
 -- The law on the keys of spans at work: a legal run of two stations, in which alice makes a second key,
 -- begins it, and retires the first one. And a definition that forgets so, which the law refuses.
-use Rattle.std.proofs.Common.{◌≡◌, ◌∙◌, ℕ, Bool, true, false, List, [], ◌∷◌, Some, None, refl, sym}
-use Rattle.std.specs.Prelude.{option_map}
+use Rattle.std.proofs.Common.{◌≡◌, ◌∙◌, ℕ, Bool, true, false, List, [], ◌∷◌, ◌++◌, Some, None, refl, sym}
+use Rattle.std.specs.Prelude.{map, option_map}
 use Rattle.std.specs.List.{filter}
 use Rattle.lan_base.specs.declared.association_number.AssociationNumber.{AssociationNumber}
 use Rattle.lan_base.specs.declared.association_number.AssociationNumber.TheVariants.{An0, An1}
 use Rattle.lan_core.specs.declared.fact.Fact.{Fact}
 use Rattle.lan_core.specs.declared.fact.Fact.TheVariants as shows
+use Rattle.lan_core.specs.declared.fact.Lack.TheVariants.{NoKey}
 use Rattle.lan_core.specs.Run.{facts_of}
 use Rattle.lan_core.specs.Keys.{held_at}
 use Rattle.lan_core.specs.Lives.{transmitting_at}
-use Rattle.group_safety.specs.worked.Group.{settings, id}
+use Rattle.group_safety.specs.worked.Group.{settings, id, mi, sak}
 use Rattle.group_safety.proofs.Public.{users, retiring, retires}
 use Rattle.key_spans.specs.declared.span.Span.{Span}
 use Rattle.key_spans.specs.declared.span.Why.TheVariants as whys
 use Rattle.key_spans.specs.Spans.{spans}
 use Rattle.key_spans.specs.Times.{is_held}
+use Rattle.key_spans.specs.declared.claim.Attempt.{Attempt}
+use Rattle.key_spans.specs.Claims.{claims, refusals}
+use Rattle.key_spans.specs.Leaving.{left, parted, resigned}
+use Rattle.key_spans.specs.Reigns.{reigns}
 use Rattle.key_spans.specs.Held.{KeyName, named, under, keys_where, TellOf}
 use Rattle.key_spans.proofs.Runs.{tell-of}
 
@@ -76,3 +81,54 @@ still_held = refl
 
 it_is_refused : keys_where is_held (forgetful 0 An0 (facts_of retiring)) ≡ held_under An0 → ⊥
 it_is_refused same = let both : (id 1, 1) ∷ [] ≡ [] = sym still_held ∙ same ∙ none_is_held in cc both
+
+-- ---- a station of two groups: it serves the first, is there last at tick 2, and goes on in the second
+
+abbrev in_both : List Fact
+in_both =
+    shows.Life 0 (mi 1) ∷ shows.Ticked 0 1 0 ∷ shows.Server 0 (Some (mi 1)) ∷ shows.Installed 0 (id 1) An0 1 (sak 3)
+    ∷ shows.Life 16 (mi 2) ∷ shows.Ticked 0 2 0 ∷ shows.Ticked 16 1 0 ∷ []
+
+abbrev gone : List Fact
+gone = in_both ++ shows.Ticked 16 2 0 ∷ shows.Ticked 16 3 0 ∷ []
+
+-- a tick in the second group comes behind one in the first
+nobody_left : left 0 in_both ≡ None
+nobody_left = refl
+
+left_at_2 : left 0 gone ≡ Some 2
+left_at_2 = refl
+
+stays_in_the_second : left 16 gone ≡ None
+stays_in_the_second = refl
+
+key_ends_at_2 : map (λ x. (parted (left 0 gone) x).ended) (spans 0 An0 gone) ≡ Some (record { at = 2; why = whys.Left }) ∷ []
+key_ends_at_2 = refl
+
+reign_is_not_over : reigns 0 gone ≡ record { from = 1; to = None } ∷ []
+reign_is_not_over = refl
+
+reign_ends_at_2 : map (resigned (left 0 gone)) (reigns 0 gone) ≡ record { from = 1; to = Some 2 } ∷ []
+reign_ends_at_2 = refl
+
+-- another server ends a reign, and one's own election begins one
+reigns_twice : reigns 0 (in_both ++ shows.Server 0 (Some (mi 2)) ∷ shows.Ticked 0 3 0 ∷ shows.Server 0 (Some (mi 1)) ∷ [])
+    ≡ record { from = 1; to = Some 2 } ∷ record { from = 3; to = None } ∷ []
+reigns_twice = refl
+
+-- ---- a station sends under two keys, and once under none
+
+abbrev sending : List Fact
+sending =
+    shows.Life 0 (mi 1) ∷ shows.Ticked 0 1 0 ∷ shows.Unclaimed 0 NoKey ∷ shows.Claimed 0 An0 1 1 ∷ shows.Ticked 0 2 2
+    ∷ shows.Claimed 0 An0 1 2 ∷ shows.Claimed 0 An1 2 1 ∷ []
+
+abbrev got_at : ℕ → ℕ → ℕ → Attempt
+got_at at epoch pn = record { at = at; got = Some (record { epoch = epoch; pn = pn }) }
+
+claimed_under_both : (claims 0 An0 sending ≡ got_at 1 1 1 ∷ got_at 2 1 2 ∷ [])
+    × (claims 0 An1 sending ≡ got_at 2 2 1 ∷ [])
+claimed_under_both = (refl, refl)
+
+refused_once : refusals 0 sending ≡ record { at = 1; got = None } ∷ []
+refused_once = refl

@@ -56,7 +56,7 @@ same-row at all row is =
     subst (λ (xs : List Span). IsThinned installed_at xs row)
     (sym (append-nil (map (touched at None) all) ∙ untouched at all)) is
 
-same-number : (s : ℕ) → (s == s) ≡ true
+pub same-number : (s : ℕ) → (s == s) ≡ true
 same-number s = grind arith
 
 module _ (s : ℕ) (a : AssociationNumber) (span : Span) where
@@ -115,7 +115,7 @@ opens-none s an at now _ is = refl
 
 -- ---- other stations
 
-unlike : (t s : ℕ) → s ≢ t → (t == s) ≡ false
+pub unlike : (t s : ℕ) → s ≢ t → (t == s) ≡ false
 unlike t s apart = go (t == s) refl
   where
     go : (b : Bool) → (t == s) ≡ b → b ≡ false

@@ -9,4 +9,7 @@ mod Telling
 mod Holding
 mod Turns
 mod Runs
+mod Leaving
+mod Ruling
+mod Claiming
 mod Examples

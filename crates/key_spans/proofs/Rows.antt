@@ -1,5 +1,5 @@
 -- Rows of stations, by place.
-use Rattle.std.proofs.Common.{◌≡◌, ◌≢◌, ℕ, zero, suc, List, [], ◌∷◌, ◌++◌, Option, Some, Result, Ok, Err, ◌∙◌, refl, sym, ap, subst, inl, inr, arith}
+use Rattle.std.proofs.Common.{◌≡◌, ◌≢◌, ◌<◌, ℕ, zero, suc, List, [], ◌∷◌, length, Option, Some, None, Result, Ok, Err, ◌∙◌, refl, sym, ap, subst, inl, inr, arith}
 use Rattle.std.specs.Prelude.{◌⊎◌, Bool, true, false, ◌==◌, slice_get, set, OnOk, OnErr}
 use Rattle.std.proofs.lemmas.Bool.{eqb-true}
 use Rattle.lan_base.specs.declared.association_number.AssociationNumber.{AssociationNumber}
@@ -23,6 +23,11 @@ set-others (z ∷ xs) zero zero y apart = absurd (apart refl)
 set-others (z ∷ xs) zero (suc t) y apart = refl
 set-others (z ∷ xs) (suc s) zero y apart = refl
 set-others (z ∷ xs) (suc s) (suc t) y apart = set-others xs s t y (λ e. apart (ap suc e))
+
+pub past-none : {A : Type 0} (xs : List A) (t : ℕ) → (t < length xs → ⊥) → slice_get xs t ≡ None
+past-none [] t none = refl
+past-none (x ∷ xs) zero none = absurd (none (omega arith))
+past-none (x ∷ xs) (suc t) none = past-none xs t (λ less. none (omega (arith, less)))
 
 pub same-place : (t s : ℕ) → (t ≡ s) ⊎ (t ≢ s)
 same-place t s = go (t == s) refl

@@ -17,7 +17,7 @@ use Rattle.key_spans.specs.inside.Taking.{AllEnded, AreBy, IsKept, IsFactTaken}
 use Rattle.key_spans.proofs.OneMore.{by_sum, clock-more, opens, spans-more}
 use Rattle.key_spans.proofs.Apart.{AreApart, all-apart, every-at, installed-lived, most, rises}
 
-clock-rises : (at : Clock) (facts : List Fact) → at.ticks ≤ most → at.ticks ≤ (clock at facts).ticks
+pub clock-rises : (at : Clock) (facts : List Fact) → at.ticks ≤ most → at.ticks ≤ (clock at facts).ticks
 clock-rises at [] few = omega arith
 clock-rises at (f ∷ facts) few =
     let now = rises at f few in

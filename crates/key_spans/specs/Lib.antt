@@ -2,4 +2,10 @@ pub mod Spans
 pub mod Standing
 pub mod Times
 pub mod Held
+pub mod Reigns
+pub mod Leaving
+pub mod Courts
+pub mod Seats
+pub mod Claims
+pub mod Sends
 pub mod inside

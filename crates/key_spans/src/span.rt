@@ -4,6 +4,7 @@ ghost use Rattle.std.specs.Prelude.{◌≡◌, ◌==◌, ◌&&◌, if◌then◌e
 ghost use Rattle.lan_base.specs.AssociationNumbers.{same_an};
 ghost use Rattle.lan_core.specs.Run.{place};
 ghost use Rattle.lan_core.specs.declared.fact.Fact.{Fact};
+ghost use Rattle.key_spans.specs.Leaving.{parted};
 ghost use Rattle.key_spans.specs.Spans.{relieved_at, touched, turn_by};
 
 use lan_base::{AssociationNumber, KeyId};
@@ -21,6 +22,8 @@ pub enum Why {
     Dropped,
     /// Its station began another life.
     Restarted,
+    /// Its station left the group.
+    Left,
 }
 
 /// When a key was held no more, in ticks, and why.
@@ -68,6 +71,22 @@ impl Timed for Span {
 }
 
 impl Span {
+    /// The key where its station left its group at this tick, if it did: one that has ended stays as it is.
+    pub fn parted(self, left: Option<u32>) -> Span
+        ensures { result ≡ parted left self }
+    {
+        match left {
+            Some(at) if self.ended.is_none() => Span {
+                ended: Some(End {
+                    at: at.max(self.installed),
+                    why: Why::Left,
+                }),
+                ..self
+            },
+            _ => self,
+        }
+    }
+
     /// The key after a fact that comes at this time: one that has ended stays as it is.
     pub(crate) fn touched(self, at: u32, turn: Option<Turn>) -> Span
         ensures { result ≡ touched at turn self }

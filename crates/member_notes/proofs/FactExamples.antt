@@ -41,6 +41,7 @@ says packet member mn time server live uses given = record {
     potential = [];
     uses = uses;
     given = given;
+    highs = None;
   };
 }
 

@@ -47,7 +47,7 @@ group-fits groups p s (Some before) e =
     let there : before < length groups = (position-Some p groups before nobody e).0 in
     (omega arith, omega arith)
 group-fits groups p s None e =
-    elim (list_any (has_name s.announcement.ckn) groups) as (λ b. FitsMka groups (cond b (mkas.Wrong (is_some s.announcement.given)) (mkas.Unknown s.announcement.sci (is_some s.announcement.given)))) [ true ↦ tt | false ↦ tt ]
+    elim (list_any (has_name s.announcement.ckn) groups) as (λ b. FitsMka groups (cond b (mkas.Wrong (is_some s.announcement.given)) (mkas.Unknown s.announcement.ckn s.announcement.sci (is_some s.announcement.given)))) [ true ↦ tt | false ↦ tt ]
 
 mka-fits : (groups : List GroupKeys) (cut : Bool) (frame : List ℕ) (r : Result Spelled Refusal)
     → Fits groups frame (mka_kind groups cut frame r)

@@ -11,7 +11,7 @@ use Rattle.mkpdu_codec.specs.declared.given.Given.{Given}
 use Rattle.mkpdu_codec.specs.declared.key_use.KeyUse.{KeyUse}
 use Rattle.mkpdu_codec.specs.declared.key_use.Uses.{Uses}
 use Rattle.mkpdu_codec.specs.declared.wrapped_key.WrappedKey.{WrappedKey}
-use Rattle.mkpdu_codec.specs.declared.wrapped_key.WrappedKey.TheVariants.{Aes128, Aes256, Other}
+use Rattle.mkpdu_codec.specs.declared.wrapped_key.WrappedKey.TheVariants.{Aes128, Aes256, Xpn128, Xpn256, Other}
 use Rattle.packet_verdicts.specs.declared.given.Gift.{Gift}
 use Rattle.packet_verdicts.specs.declared.given.NoSak.{NoSak}
 use Rattle.packet_verdicts.specs.declared.given.NoSak.TheVariants.{OtherSuite, WrongWrap}
@@ -29,6 +29,8 @@ IsSak kek (Aes128 octets) (Err WrongWrap) =
 IsSak kek (Aes256 octets) (Ok (S256 sak)) = IsOctets 32 sak × (wrapped kek sak ≡ octets)
 IsSak kek (Aes256 octets) (Err WrongWrap) =
     (sak : List ℕ) → IsOctets 32 sak → wrapped kek sak ≢ octets
+IsSak kek (Xpn128 octets) (Err OtherSuite) = Unit {0}
+IsSak kek (Xpn256 octets) (Err OtherSuite) = Unit {0}
 IsSak kek Other (Err OtherSuite) = Unit {0}
 IsSak kek _ _ = ⊥
 

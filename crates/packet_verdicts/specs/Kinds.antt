@@ -51,7 +51,7 @@ sec_kind cut frame =
 abbrev pub strange_kind : List GroupKeys → Announcement → Mka
 strange_kind groups a =
     if list_any (has_name a.ckn) groups then mkas.Wrong (is_some a.given)
-    else mkas.Unknown a.sci (is_some a.given)
+    else mkas.Unknown a.ckn a.sci (is_some a.given)
 
 -- it is of the first group under which it is right, counted from 1
 abbrev pub group_kind : List GroupKeys → Spelled → Option ℕ → Mka

@@ -89,7 +89,9 @@ fn sak_of(kek: &Key, key: &WrappedKey) -> Result<Secret, NoSak>
             Some(sak) => Ok(Secret::S256(sak)),
             None => Err(NoSak::WrongWrap),
         },
-        WrappedKey::Other => Err(NoSak::OtherSuite),
+        WrappedKey::Xpn128(_) | WrappedKey::Xpn256(_) | WrappedKey::Other => {
+            Err(NoSak::OtherSuite)
+        }
     }
 }
 

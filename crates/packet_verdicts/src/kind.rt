@@ -1,7 +1,7 @@
 //! What a packet is.
 
 use gcm_frames::{Tag, TagRefusal};
-use lan_base::Sci;
+use lan_base::{Octets, Sci};
 use mkpdu_codec::{Refusal, Spelled};
 
 /// Why a frame with the EtherType of MACsec can't be judged.
@@ -30,8 +30,8 @@ pub enum Mka {
     Cut,
     /// It spells nothing.
     Dropped(Refusal),
-    /// No group has its CKN: its SCI, and whether it distributes a key.
-    Unknown { sci: Sci, gives: bool },
+    /// No group has its CKN: that, its SCI, and whether it distributes a key.
+    Unknown { ckn: Octets, sci: Sci, gives: bool },
     /// Groups have its CKN, and none of their integrity check keys gives its check value.
     Wrong { gives: bool },
     /// It is of a group: the group's number, from 1, and what it spells.

@@ -40,19 +40,23 @@ fn spelled_kind(groups: &Groups, covered: &[u8], spelled: Spelled) -> Mka
             group: before + 1,
             spelled,
         },
-        None => strange_kind(groups, &spelled.announcement),
+        None => strange_kind(groups, spelled.announcement),
     }
 }
 
 /// What a frame of key agreement is that is right under no group.
-fn strange_kind(groups: &Groups, a: &Announcement) -> Mka
-    ensures { result ≡ strange_kind groups.now a.now }
+fn strange_kind(groups: &Groups, a: Announcement) -> Mka
+    ensures { result ≡ strange_kind groups.now a }
 {
     let gives = a.given.is_some();
     if groups.has_name(&a.ckn) {
         Mka::Wrong { gives }
     } else {
-        Mka::Unknown { sci: a.sci, gives }
+        Mka::Unknown {
+            ckn: a.ckn,
+            sci: a.sci,
+            gives,
+        }
     }
 }
 

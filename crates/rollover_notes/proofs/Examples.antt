@@ -53,6 +53,7 @@ says s m live uses = record {
   potential = [];
   uses = uses;
   given = None;
+  highs = None;
 }
 
 -- in a packet, at a time in milliseconds, an MI spoke under an SCI, with live peers
@@ -146,8 +147,12 @@ too_late = refl
 late_frame : is_late_frame began_two (frame 9 13001 1) ≡ true
 late_frame = refl
 
-counted_late : late (Used (frame 9 13001 1) ∷ began_two) (1, sci 1) ≡ 1
+counted_late : late (Used (frame 10 13002 1) ∷ Used (frame 9 13001 1) ∷ began_two) (1, sci 1)
+    ≡ record { frames = 2; first = 9 }
 counted_late = refl
+
+late_under_one : late (Used (frame 9 13001 1) ∷ began_two) (2, sci 1) ≡ record { frames = 0; first = 0 }
+late_under_one = refl
 
 -- a later life of B under MI 3 and the same SCI: B's earlier one is not beside what comes then
 abbrev again : List Event

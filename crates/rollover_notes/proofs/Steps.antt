@@ -20,9 +20,9 @@ use Rattle.rollover_notes.specs.Givings.{GroupId, group_id, in_order, is_given, 
 use Rattle.rollover_notes.specs.Speaking.{Member, Said, said_of}
 use Rattle.rollover_notes.specs.Reports.{id_in, is_key, uses_of}
 use Rattle.rollover_notes.specs.Timings.{is_late_frame}
-use Rattle.rollover_notes.specs.Counted.{Pair, more, pair_cmp, unready_counts}
+use Rattle.rollover_notes.specs.Counted.{Pair, pair_cmp, unready_counts, with_late}
 use Rattle.rollover_notes.specs.Standing.{KeptRollovers, MemberKey, StandsFor, group_id_cmp, group_key_cmp, has, number_sci_cmp}
-use Rattle.rollover_notes.specs.inside.Putting.{Adds, CountsMore, Puts, PutsFirst, PutsShown}
+use Rattle.rollover_notes.specs.inside.Putting.{Adds, CountsMore, Lates, Puts, PutsFirst, PutsShown}
 use Rattle.rollover_notes.proofs.Ties.{group-id-ties, group-key-ties, member-ties, number-sci-ties}
 
 cond-or : (b c : Bool) → cond b true c ≡ (b || c)
@@ -135,10 +135,10 @@ module _ (h : List Event) (kept : KeptRollovers) (stands : StandsFor h kept) whe
 
   -- ---- a frame is used
 
-  pub used : (frame : RightFrame) (is_late : Bool) (unready : List (Pair × Counts)) (lates : List ((ℕ × Sci) × ℕ))
+  pub used : (frame : RightFrame) (is_late : Bool) (unready : List (Pair × Counts)) (lates : Lates)
       → ((p : Pair) → lookup (is_at (pair_cmp p)) unready ≡ unready_counts (Used frame ∷ h) p)
       → is_late ≡ is_late_frame h frame
-      → CountsMore is_late (frame.key, frame.sci) kept.late lates
+      → CountsMore is_late frame.packet (frame.key, frame.sci) kept.late lates
       → StandsFor (Used frame ∷ h) (record kept { unready = unready; late = lates })
   used frame is_late unready lates counts is more_late = record {
     ids = stands.ids;
@@ -150,5 +150,5 @@ module _ (h : List Event) (kept : KeptRollovers) (stands : StandsFor h kept) whe
     speakers = stands.speakers;
     unready = counts;
     late = λ q. more_late q
-        ∙ (λ t. cond (number-sci-ties (frame.key, frame.sci) q t && is t) (more (stands.late q t)) (stands.late q t));
+        ∙ (λ t. cond (number-sci-ties (frame.key, frame.sci) q t && is t) (with_late frame.packet (stands.late q t)) (stands.late q t));
   }

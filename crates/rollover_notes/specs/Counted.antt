@@ -8,6 +8,7 @@ use Rattle.lan_base.specs.Identifiers.{same_sci}
 use Rattle.member_notes.specs.Standing.{member_cmp}
 use Rattle.use_notes.specs.declared.frame.RightFrame.{RightFrame}
 use Rattle.rollover_notes.specs.declared.counts.Counts.{Counts}
+use Rattle.rollover_notes.specs.declared.late_frames.LateFrames.{LateFrames}
 use Rattle.rollover_notes.specs.declared.unready.Unready.{Unready}
 use Rattle.rollover_notes.specs.declared.timing.Timing.{Timing}
 use Rattle.rollover_notes.specs.declared.timing.Timing.TheVariants.{Early, Joining, Late, InTime}
@@ -56,14 +57,20 @@ unready_counts (Gave group id key ∷ h) p = unready_counts h p
 unready_counts (Spoke s ∷ h) p = unready_counts h p
 unready_counts (Used frame ∷ h) p = counted (unready_counts h p) frame.packet (timing_to h frame p)
 
--- how many frames under a key, of a sender, came late
-abbrev pub late : List Event → ℕ × Sci → ℕ
-late [] at = 0
+abbrev pub none_late : LateFrames
+none_late = record { frames = 0; first = 0 }
+
+abbrev pub with_late : ℕ → LateFrames → LateFrames
+with_late packet l = record { frames = more l.frames; first = first_of l.frames l.first packet }
+
+-- how many frames under a key, of a sender, came late, and the first of them
+abbrev pub late : List Event → ℕ × Sci → LateFrames
+late [] at = none_late
 late (Gave group id key ∷ h) at = late h at
 late (Spoke s ∷ h) at = late h at
 late (Used frame ∷ h) at =
     if ((frame.key == at.0) && same_sci frame.sci at.1) && is_late_frame h frame
-    then more (late h at)
+    then with_late frame.packet (late h at)
     else late h at
 
 -- ---- what is told at the end

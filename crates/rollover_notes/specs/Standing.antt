@@ -11,11 +11,12 @@ use Rattle.lan_base.specs.declared.address.Sci.{Sci}
 use Rattle.lan_base.specs.Identifiers.{order}
 use Rattle.member_notes.specs.Standing.{member_cmp}
 use Rattle.rollover_notes.specs.declared.counts.Counts.{Counts}
+use Rattle.rollover_notes.specs.declared.late_frames.LateFrames.{LateFrames}
 use Rattle.rollover_notes.specs.Events.{Event}
 use Rattle.rollover_notes.specs.Givings.{GroupId, in_order, is_given, key_of}
 use Rattle.rollover_notes.specs.Speaking.{Member, Said, said, speaker}
 use Rattle.rollover_notes.specs.Reports.{began, reported}
-use Rattle.rollover_notes.specs.Counted.{Pair, late, pair_cmp, unready_counts}
+use Rattle.rollover_notes.specs.Counted.{Pair, late, none_late, pair_cmp, unready_counts}
 
 -- ---- how maps and sets are ordered
 
@@ -50,7 +51,7 @@ pub record KeptRollovers : Type 0 where
   pub said : List (Member × Said)
   pub speakers : List ((ℕ × Sci) × Mi)
   pub unready : List (Pair × Counts)
-  pub late : List ((ℕ × Sci) × ℕ)
+  pub late : List ((ℕ × Sci) × LateFrames)
 
 -- by identifier in a group its key, the keys given in each group, and the keys in order; by member and
 -- key the first report and the first time; what each member said last, and the speaker of each SCI; and
@@ -64,4 +65,4 @@ pub record StandsFor (h : List Event) (kept : KeptRollovers) : Type 0 where
   pub said : (m : Member) → lookup (is_at (member_cmp m)) kept.said ≡ said h m
   pub speakers : (at : ℕ × Sci) → lookup (is_at (number_sci_cmp at)) kept.speakers ≡ speaker h at
   pub unready : (p : Pair) → lookup (is_at (pair_cmp p)) kept.unready ≡ unready_counts h p
-  pub late : (at : ℕ × Sci) → unwrap_or (lookup (is_at (number_sci_cmp at)) kept.late) 0 ≡ late h at
+  pub late : (at : ℕ × Sci) → unwrap_or (lookup (is_at (number_sci_cmp at)) kept.late) none_late ≡ late h at

@@ -62,7 +62,7 @@ pub fn more(count: u32) -> u32
 }
 
 /// The first packet, where that of this one is the first if none was counted.
-fn first_of(count: u32, first: u32, packet: u32) -> u32
+pub fn first_of(count: u32, first: u32, packet: u32) -> u32
     ensures { result ≡ first_of count first packet }
 {
     if count == 0 { packet } else { first }

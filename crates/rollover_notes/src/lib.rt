@@ -4,6 +4,7 @@
 
 mod counts;
 mod givings;
+mod late_frames;
 mod notes;
 mod putting;
 mod report;
@@ -14,6 +15,7 @@ mod timing;
 mod unready;
 mod walk;
 
+pub use late_frames::LateFrames;
 pub use notes::RolloverNotes;
 pub use report::Report;
 pub use timing::Timing;

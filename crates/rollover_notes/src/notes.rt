@@ -8,6 +8,7 @@ ghost use Rattle.rollover_notes.specs.Standing.{StandsFor};
 
 use crate::counts::Counts;
 use crate::givings::Givings;
+use crate::late_frames::LateFrames;
 use crate::report::{Report, list_reports};
 use crate::reports::Reports;
 use crate::saying::Member;
@@ -32,7 +33,7 @@ pub struct RolloverNotes {
     reports: Reports,
     speakers: Speakers,
     unready: BTreeMap<(u32, Member), Counts>,
-    late: BTreeMap<(u32, Sci), u32>,
+    late: BTreeMap<(u32, Sci), LateFrames>,
 }
 
 impl Model for RolloverNotes {
@@ -128,10 +129,13 @@ impl RolloverNotes {
         list_reports(self.alloc, &self.reports)
     }
 
-    /// How many fresh frames under a key, of a sender, came late. Costs a look-up.
-    pub fn late(&self, key: u32, sci: Sci) -> u32
+    /// How many fresh frames under a key, of a sender, came late, and the first of them. Costs a look-up.
+    pub fn late(&self, key: u32, sci: Sci) -> LateFrames
         ensures { (h : List Event) → StandsFor h self.now → result ≡ late h (key, sci) }
     {
-        self.late.get(&(key, sci)).copied().unwrap_or(0)
+        self.late
+            .get(&(key, sci))
+            .copied()
+            .unwrap_or(LateFrames::none())
     }
 }

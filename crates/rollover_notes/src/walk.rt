@@ -5,8 +5,9 @@ ghost use Rattle.rollover_notes.specs.Timings.{is_late};
 ghost use Rattle.rollover_notes.specs.inside.Putting.{CountsMore};
 ghost use Rattle.rollover_notes.specs.inside.Walking.{IsToldToAll, timing_at};
 
-use crate::counts::{Counts, count, more};
+use crate::counts::{Counts, count};
 use crate::givings::Givings;
+use crate::late_frames::LateFrames;
 use crate::reports::Reports;
 use crate::saying::Member;
 use crate::speakers::Speakers;
@@ -63,16 +64,16 @@ fn timing_at(
 
 /// A frame is counted under its key and sender, if it is late.
 pub fn count_late(
-    counts: &mut BTreeMap<(u32, Sci), u32>,
+    counts: &mut BTreeMap<(u32, Sci), LateFrames>,
     frame: &RightFrame,
     is_late: bool,
 ) -> Result<(), AllocError>
-    ensures { OnOk result (CountsMore is_late (frame.now.key, frame.now.sci) counts.old.entries counts.new.entries) }
+    ensures { OnOk result (CountsMore is_late frame.now.packet (frame.now.key, frame.now.sci) counts.old.entries counts.new.entries) }
 {
     if is_late {
         let at = (frame.key, frame.sci);
-        let before = counts.get(&at).copied().unwrap_or(0);
-        counts.insert(at, more(before))?;
+        let before = counts.get(&at).copied().unwrap_or(LateFrames::none());
+        counts.insert(at, before.with(frame.packet))?;
     }
     Ok(())
 }

@@ -4,7 +4,9 @@ use Rattle.std.specs.Prelude.{◌⊎◌}
 use Rattle.capture_audit.specs.declared.end.AuditEnd.{AuditEnd}
 use Rattle.capture_audit.specs.declared.end.AuditEnd.TheVariants as ends
 use Rattle.capture_audit.specs.Before.{Unwrapped}
-use Rattle.capture_audit.specs.Ends.{IsBroken, IsOfOutside, end_for}
+use Rattle.audit_report.specs.declared.blame.Breach.{Breach}
+use Rattle.audit_report.specs.declared.blame.Breach.TheVariants as breaches
+use Rattle.capture_audit.specs.Ends.{IsBreach, IsBroken, IsOfOutside, IsRefuted, end_for}
 use Rattle.capture_audit.specs.Telling.{all_told}
 use Rattle.capture_audit.specs.declared.asks.Asks.{Asks}
 use Rattle.audit_report.specs.Tallies.{tally_of}
@@ -28,8 +30,9 @@ not_viewed asks text left failed old = (Err ends.Memory, tt, inl refl, (refl, re
 pub audit_no_usage : (r : Result (Unit {0}) AuditEnd) → status_of_audit r ≡ Usage → ⊥
 audit_no_usage (Ok done) e = cc e
 audit_no_usage (Err (ends.KeyLine line why)) e = cc e
-audit_no_usage (Err ends.Refuted) e = cc e
+audit_no_usage (Err (ends.Refuted breach)) e = cc e
 audit_no_usage (Err (ends.Doubted wrong undecided)) e = cc e
+audit_no_usage (Err ends.NotJudged) e = cc e
 audit_no_usage (Err (ends.Refused at why)) e = cc e
 audit_no_usage (Err ends.InputLimit) e = cc e
 audit_no_usage (Err ends.KeyLimit) e = cc e
@@ -41,8 +44,9 @@ pub audit_read : (r : Result (Unit {0}) AuditEnd) → status_of_audit r ≡ Read
     → r ≡ Err ends.ReadFault
 audit_read (Ok done) e = absurd (cc e)
 audit_read (Err (ends.KeyLine line why)) e = absurd (cc e)
-audit_read (Err ends.Refuted) e = absurd (cc e)
+audit_read (Err (ends.Refuted breach)) e = absurd (cc e)
 audit_read (Err (ends.Doubted wrong undecided)) e = absurd (cc e)
+audit_read (Err ends.NotJudged) e = absurd (cc e)
 audit_read (Err (ends.Refused at why)) e = absurd (cc e)
 audit_read (Err ends.InputLimit) e = absurd (cc e)
 audit_read (Err ends.KeyLimit) e = absurd (cc e)
@@ -54,8 +58,9 @@ pub audit_write : (r : Result (Unit {0}) AuditEnd) → status_of_audit r ≡ Wri
     → r ≡ Err ends.WriteFault
 audit_write (Ok done) e = absurd (cc e)
 audit_write (Err (ends.KeyLine line why)) e = absurd (cc e)
-audit_write (Err ends.Refuted) e = absurd (cc e)
+audit_write (Err (ends.Refuted breach)) e = absurd (cc e)
 audit_write (Err (ends.Doubted wrong undecided)) e = absurd (cc e)
+audit_write (Err ends.NotJudged) e = absurd (cc e)
 audit_write (Err (ends.Refused at why)) e = absurd (cc e)
 audit_write (Err ends.InputLimit) e = absurd (cc e)
 audit_write (Err ends.KeyLimit) e = absurd (cc e)
@@ -65,6 +70,13 @@ audit_write (Err ends.Memory) e = absurd (cc e)
 
 -- ---- a whole capture was judged without a fault
 
+-- where the source did not fail
+pub unfailed : (ring : Ring) (packets : List Unwrapped) (failed : Type 0) (breach : Breach) → (failed → ⊥)
+    → IsBreach ring packets failed breach → IsBreach ring packets ⊥ breach
+unfailed ring packets failed (breaches.Nonce i j) whole is = is
+unfailed ring packets failed (breaches.Key i j) whole (least, inl none) = (least, inl none)
+unfailed ring packets failed (breaches.Key i j) whole (least, inr was) = absurd (whole was)
+
 module _ (asks : Asks) (failed : Type 0) (ring : Ring) (packets : List Unwrapped) where
   -- how an audit ends in which no pair breaks
   abbrev unbroken : Result (Unit {0}) AuditEnd
@@ -72,28 +84,33 @@ module _ (asks : Asks) (failed : Type 0) (ring : Ring) (packets : List Unwrapped
 
   -- what breaks was told
   abbrev pub IsTold : Result (Unit {0}) AuditEnd → Type 0
-  IsTold r = (i j : ℕ) → IsBroken ring packets i j → (r ≡ Err ends.Refuted) ⊎ IsOfOutside asks failed r
+  IsTold r = (i j : ℕ) → IsBroken ring packets i j
+      → IsRefuted ring packets failed r ⊎ IsOfOutside asks failed r
 
   -- and nothing else
   abbrev pub IsSound : Result (Unit {0}) AuditEnd → Type 0
   IsSound r = ((i j : ℕ) → IsBroken ring packets i j → ⊥) → (r ≡ unbroken) ⊎ IsOfOutside asks failed r
 
   -- without a fault, and with memory
-  inside_only : (r end : Result (Unit {0}) AuditEnd) → (failed → ⊥) → (r ≡ Err ends.ReadFault → ⊥)
-      → (r ≡ Err ends.WriteFault → ⊥) → (r ≡ Err ends.Memory → ⊥)
-      → (r ≡ end) ⊎ IsOfOutside asks failed r → r ≡ end
-  inside_only r end whole reads writes room (inl is) = is
-  inside_only r end whole reads writes room (inr (inl is)) = absurd (reads is)
-  inside_only r end whole reads writes room (inr (inr (inl is))) = absurd (writes is)
-  inside_only r end whole reads writes room (inr (inr (inr (inl is)))) = absurd (room is)
-  inside_only r end whole reads writes room (inr (inr (inr (inr is)))) = absurd (whole is.1)
+  inside_only : (r : Result (Unit {0}) AuditEnd) → (failed → ⊥) → (r ≡ Err ends.ReadFault → ⊥)
+      → (r ≡ Err ends.WriteFault → ⊥) → (r ≡ Err ends.Memory → ⊥) → IsOfOutside asks failed r → ⊥
+  inside_only r whole reads writes room (inl is) = reads is
+  inside_only r whole reads writes room (inr (inl is)) = writes is
+  inside_only r whole reads writes room (inr (inr (inl is))) = room is
+  inside_only r whole reads writes room (inr (inr (inr is))) = whole is.1
 
   judged : (r : Result (Unit {0}) AuditEnd) → (failed → ⊥) → (r ≡ Err ends.ReadFault → ⊥)
       → (r ≡ Err ends.WriteFault → ⊥) → (r ≡ Err ends.Memory → ⊥) → IsTold r → IsSound r
       → EndsJudged asks ring packets (status_of_audit r)
   judged r whole reads writes room told sound = (
-    λ i j broken. ap status_of_audit (inside_only r (Err ends.Refuted) whole reads writes room (told i j broken)),
-    λ none. ap status_of_audit (inside_only r unbroken whole reads writes room (sound none)),
+    λ i j broken. elim (told i j broken) [
+      | inl by ↦ (by.0, unfailed ring packets failed by.0 whole by.1, ap status_of_audit by.2)
+      | inr outside ↦ absurd (inside_only r whole reads writes room outside)
+    ],
+    λ none. elim (sound none) [
+      | inl is ↦ ap status_of_audit is
+      | inr outside ↦ absurd (inside_only r whole reads writes room outside)
+    ],
   )
 
   pub complete_audit : (r : Result (Unit {0}) AuditEnd) → (failed → ⊥) → (r ≡ Err ends.ReadFault → ⊥)
@@ -104,10 +121,12 @@ module _ (asks : Asks) (failed : Type 0) (ring : Ring) (packets : List Unwrapped
       inl (judged (Ok done) whole reads writes (λ e. cc e) told sound)
   complete_audit (Err (ends.KeyLine line why)) whole reads writes told sound =
       inl (judged (Err (ends.KeyLine line why)) whole reads writes (λ e. cc e) told sound)
-  complete_audit (Err ends.Refuted) whole reads writes told sound =
-      inl (judged (Err ends.Refuted) whole reads writes (λ e. cc e) told sound)
+  complete_audit (Err (ends.Refuted breach)) whole reads writes told sound =
+      inl (judged (Err (ends.Refuted breach)) whole reads writes (λ e. cc e) told sound)
   complete_audit (Err (ends.Doubted wrong undecided)) whole reads writes told sound =
       inl (judged (Err (ends.Doubted wrong undecided)) whole reads writes (λ e. cc e) told sound)
+  complete_audit (Err ends.NotJudged) whole reads writes told sound =
+      inl (judged (Err ends.NotJudged) whole reads writes (λ e. cc e) told sound)
   complete_audit (Err (ends.Refused at why)) whole reads writes told sound =
       inl (judged (Err (ends.Refused at why)) whole reads writes (λ e. cc e) told sound)
   complete_audit (Err ends.InputLimit) whole reads writes told sound =

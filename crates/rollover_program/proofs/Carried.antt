@@ -25,7 +25,7 @@ use Rattle.replay.specs.Runs.{most_input, Performing, Shows, within, EndsRun}
 use Rattle.replay.specs.OneGroup.{one_group, shown_by, whole, IsSettled}
 use Rattle.replay.proofs.Public.{runs-weaker, broke-one}
 use Rattle.rollover_program.specs.declared.status.Status.{Status}
-use Rattle.rollover_program.specs.declared.status.Status.TheVariants.{Done, Usage, CheckInput, Refuted, Transcript, CaptureInput, Unrecorded, Capture, KeyLine, Keys, CaptureRefuted, CaptureDoubted, Packets, Trace, ReadFault, WriteFault, Memory, Input, Limit, RepeatedDraw, Forged}
+use Rattle.rollover_program.specs.declared.status.Status.TheVariants.{Done, Usage, CheckInput, Refuted, Transcript, CaptureInput, Unrecorded, Capture, KeyLine, Keys, CaptureRefuted, CaptureDoubted, CaptureNotJudged, Packets, Trace, ReadFault, WriteFault, Memory, Input, Limit, RepeatedDraw, Forged}
 use Rattle.rollover_program.specs.Headline.{IsPromised}
 use Rattle.rollover_program.specs.commands.Run.{Answers, EndsAsRun, EndsWithin, halt_in}
 use Rattle.rollover_program.specs.commands.Run.{status_after, status_of_halt, status_of_replay, status_within}
@@ -280,8 +280,9 @@ complete_make n old new (Unrecorded line why) ends writes = absurd ends
 complete_make n old new (Capture at why) ends writes = absurd ends
 complete_make n old new (KeyLine line why) ends writes = absurd ends
 complete_make n old new Keys ends writes = absurd ends
-complete_make n old new CaptureRefuted ends writes = absurd ends
+complete_make n old new (CaptureRefuted breach) ends writes = absurd ends
 complete_make n old new (CaptureDoubted wrong undecided) ends writes = absurd ends
+complete_make n old new CaptureNotJudged ends writes = absurd ends
 complete_make n old new (Packets at why) ends writes = absurd ends
 complete_make n old new WriteFault ends writes = absurd (writes ends.0)
 complete_make n old new Memory ends writes = inr refl

@@ -16,7 +16,7 @@ use Rattle.capture_audit.specs.Views.{end_seen}
 use Rattle.replay.specs.Sinks.{Sunk}
 use Rattle.rollover_program.specs.declared.status.Status.{Status}
 use Rattle.rollover_program.specs.declared.status.Status.TheVariants as statuses
-use Rattle.rollover_program.specs.declared.status.Status.TheVariants.{Done, Usage, CheckInput, Refuted, Transcript, CaptureInput, Unrecorded, KeyLine, Keys, CaptureRefuted, CaptureDoubted, Packets, Trace, ReadFault, WriteFault, Memory, Input, Limit, RepeatedDraw, Forged}
+use Rattle.rollover_program.specs.declared.status.Status.TheVariants.{Done, Usage, CheckInput, Refuted, Transcript, CaptureInput, Unrecorded, KeyLine, Keys, CaptureRefuted, CaptureDoubted, CaptureNotJudged, Packets, Trace, ReadFault, WriteFault, Memory, Input, Limit, RepeatedDraw, Forged}
 use Rattle.rollover_program.specs.Carried.{IsDecided}
 use Rattle.rollover_program.specs.commands.Check.{EndsAsCheck, Tells, status_of}
 use Rattle.rollover_program.specs.commands.Capture.{EndsAsCapture, status_of_capture}
@@ -59,8 +59,9 @@ decided (Unrecorded line why) outside reads writes = inl tt
 decided (statuses.Capture at why) outside reads writes = inl tt
 decided (KeyLine line why) outside reads writes = inl tt
 decided Keys outside reads writes = inl tt
-decided CaptureRefuted outside reads writes = inl tt
+decided (CaptureRefuted breach) outside reads writes = inl tt
 decided (CaptureDoubted wrong undecided) outside reads writes = inl tt
+decided CaptureNotJudged outside reads writes = inl tt
 decided (Packets at why) outside reads writes = inl tt
 
 -- ---- by what each command answers
@@ -90,8 +91,9 @@ by_verdict verdict old new (Unrecorded line why) tells = tt
 by_verdict verdict old new (statuses.Capture at why) tells = tt
 by_verdict verdict old new (KeyLine line why) tells = tt
 by_verdict verdict old new Keys tells = tt
-by_verdict verdict old new CaptureRefuted tells = tt
+by_verdict verdict old new (CaptureRefuted breach) tells = tt
 by_verdict verdict old new (CaptureDoubted wrong undecided) tells = tt
+by_verdict verdict old new CaptureNotJudged tells = tt
 by_verdict verdict old new (Packets at why) tells = tt
 
 by_picture : (picture : List ℕ) (old new : Sunk) (status : Status) → Shows picture old new status
@@ -114,8 +116,9 @@ by_picture picture old new (Unrecorded line why) shows = tt
 by_picture picture old new (statuses.Capture at why) shows = tt
 by_picture picture old new (KeyLine line why) shows = tt
 by_picture picture old new Keys shows = tt
-by_picture picture old new CaptureRefuted shows = tt
+by_picture picture old new (CaptureRefuted breach) shows = tt
 by_picture picture old new (CaptureDoubted wrong undecided) shows = tt
+by_picture picture old new CaptureNotJudged shows = tt
 by_picture picture old new (Packets at why) shows = tt
 
 by_unfinished : (why : Unfinished CheckFault) → IsHaltedOutside (status_of why)
@@ -144,8 +147,9 @@ by_telling (Err unfinished.Memory) = tt
 by_audit : (r : Result (Unit {0}) AuditEnd) → IsHaltedOutside (status_of_audit r)
 by_audit (Ok done) = tt
 by_audit (Err (ends.KeyLine line why)) = tt
-by_audit (Err ends.Refuted) = tt
+by_audit (Err (ends.Refuted breach)) = tt
 by_audit (Err (ends.Doubted wrong undecided)) = tt
+by_audit (Err ends.NotJudged) = tt
 by_audit (Err (ends.Refused at why)) = tt
 by_audit (Err ends.InputLimit) = tt
 by_audit (Err ends.KeyLimit) = tt

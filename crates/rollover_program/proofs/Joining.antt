@@ -1,27 +1,35 @@
--- What stands before a source is given first.
-use Rattle.std.proofs.Common.{◌≡◌, ℕ, ◌+◌, ◌-◌, length, List, ◌++◌, Option, None, Some, sym, refl, ap, arith, append_assoc, take, drop, ◌∙◌}
-use Rattle.std.proofs.lemmas.List.{drop-drop, length-drop, take-append-drop, take_all}
-use Rattle.std.proofs.Math.Seq.{take-append_seam}
+-- A key text is given piece by piece, and then what stands between it and the capture.
+use Rattle.std.proofs.Common.{◌≡◌, ◌∙◌, ◌==◌, ◌<◌, ◌≤◌, ◌-◌, ℕ, zero, suc, Bool, List, [], ◌∷◌, ◌++◌, length, take, slice_index}
+use Rattle.std.proofs.Common.{Option, None, Some, option_map, refl, sym, ap, arith, append_assoc}
 use Rattle.lan_base.specs.Told.{before}
+use Rattle.rollover_program.specs.Joined.{ends_line, seam}
 
--- some of what is left goes, and then the rest is left
-pub given_on : (xs : List ℕ) (given n : ℕ) (told : Option (List ℕ))
-    → before (drop given xs) told ≡ before (take n (drop given xs)) (before (drop (given + n) xs) told)
-given_on xs given n None = refl
-given_on xs given n (Some rest) =
-    let parts : drop given xs ≡ take n (drop given xs) ++ drop (given + n) xs =
-    sym (take-append-drop n (drop given xs))
-    ∙ ap (λ ys. take n (drop given xs) ++ ys) (drop-drop n given xs) in
-    ap (λ ys. Some (ys ++ rest)) parts
-    ∙ ap (λ ys. Some ys) (append_assoc (take n (drop given xs)) (drop (given + n) xs) rest)
+-- what ends with the last of two parts
+ends_behind : (ends : Bool) (xs ys : List ℕ) → ends_line ends (xs ++ ys) ≡ ends_line (ends_line ends xs) ys
+ends_behind ends [] ys = refl
+ends_behind ends (x ∷ xs) ys = ends_behind (x == 10) xs ys
 
--- what was copied to the front is what went
-pub went_on : (xs : List ℕ) (given n : ℕ) (copied into : List ℕ)
-    → copied ≡ take n (take (length xs - given) (drop given xs)) → length copied ≡ n
-    → take n (copied ++ drop n into) ≡ take n (drop given xs)
-went_on xs given n copied into is fits =
-    let all : take (length xs - given) (drop given xs) ≡ drop given xs =
-    take_all (length xs - given) (drop given xs) (omega (arith, length-drop given xs)) in
-    let seam : take n (copied ++ drop n into) ≡ copied =
-    ap (λ m. take m (copied ++ drop n into)) (sym fits) ∙ take-append_seam copied (drop n into) in
-    seam ∙ is ∙ ap (take n) all
+-- whether a front ends with a line feed says its last octet
+last_ends : (n : ℕ) (ends : Bool) (xs : List ℕ) → n < length xs
+    → ends_line ends (take (suc n) xs) ≡ (slice_index xs n == 10)
+last_ends n ends [] within = absurd (omega (arith, within))
+last_ends zero ends (x ∷ xs) within = refl
+last_ends (suc n) ends (x ∷ xs) within = last_ends n (x == 10) xs (omega (arith, within))
+
+pub front_ends : (n : ℕ) (ends : Bool) (xs : List ℕ) → 0 < n → n ≤ length xs
+    → ends_line ends (take n xs) ≡ (slice_index xs (n - 1) == 10)
+front_ends zero ends xs some within = absurd (omega (arith, some))
+front_ends (suc n) ends xs some within =
+    let e : suc n - 1 ≡ n = omega arith in
+    rw e (last_ends n ends xs (omega (arith, within)))
+
+-- some octets of a key text go, and then the rest of it is left
+pub goes_on : (ends now : Bool) (moved : List ℕ) (old new : Option (List ℕ)) → old ≡ before moved new
+    → ends_line ends moved ≡ now
+    → option_map (λ octets. octets ++ seam (ends_line ends octets)) old
+    ≡ before moved (option_map (λ octets. octets ++ seam (ends_line now octets)) new)
+goes_on ends now moved old None is by = rw is refl
+goes_on ends now moved old (Some rest) is by =
+    let behind : ends_line ends (moved ++ rest) ≡ ends_line now rest =
+    ends_behind ends moved rest ∙ ap (λ b. ends_line b rest) by in
+    rw (is, behind) (ap (λ xs. Some xs) (append_assoc moved rest (seam (ends_line now rest))))

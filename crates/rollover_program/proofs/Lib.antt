@@ -1,10 +1,11 @@
 mod Joining
-mod Named
 mod Literals
+mod Examples
 mod Reading
 mod Taken
 mod Ordered
 mod Carried
+mod Turned
 mod Rolled
 mod Judged
 mod Captured

@@ -3,10 +3,7 @@ use Rattle.std.proofs.Common.{◌≡◌, ◌∙◌, ◌≤◌, ◌==◌, ℕ, Bo
 use Rattle.std.proofs.Common.{Option, Some, None, is_some, refl, sym, ap, arith, codes, inl, inr, option_map}
 use Rattle.std.proofs.Common.{option_and_then}
 use Rattle.std.specs.Prelude.{decimal, pos}
-use Rattle.std.specs.Option.{ok_or, option_map_or}
-use Rattle.std.specs.Prelude.{IfOk, Result}
-use Rattle.rollover_program.specs.declared.words.Refusal.{Refusal}
-use Rattle.rollover_program.specs.declared.words.Refusal.TheVariants as refusals
+use Rattle.std.specs.Option.{option_map_or}
 use Rattle.std.specs.Str.Parse.{IsNumeral, digits_value}
 use Rattle.std.proofs.lemmas.Bool.{ne_eqb}
 use Rattle.std.proofs.lemmas.Fmt.{decimal_is_IsNumeral}
@@ -233,20 +230,29 @@ draw_plain : (fault_of command (words_of Draw) ≡ []) × (order_of (words_of Dr
 unfolding clap_on_literals
 draw_plain = (refl, refl)
 
-abbrev asked : Bool → Bool → Asks
-asked shows strict = record { shows = shows; strict = strict }
+abbrev asked : Bool → Bool → Bool → Asks
+asked shows strict keys = record { shows = shows; strict = strict; keys = keys }
 
-audit_plain : (shows strict draws : Bool) → (fault_of command (words_of (Audit (asked shows strict) draws)) ≡ [])
-    × (order_of (words_of (Audit (asked shows strict) draws)) ≡ Some (Audit (asked shows strict) draws))
+audit_plain : (shows strict keys draws : Bool)
+    → (fault_of command (words_of (Audit (asked shows strict keys) draws)) ≡ [])
+    × (order_of (words_of (Audit (asked shows strict keys) draws)) ≡ Some (Audit (asked shows strict keys) draws))
 unfolding clap_on_literals
-audit_plain true true true = (refl, refl)
-audit_plain true true false = (refl, refl)
-audit_plain true false true = (refl, refl)
-audit_plain true false false = (refl, refl)
-audit_plain false true true = (refl, refl)
-audit_plain false true false = (refl, refl)
-audit_plain false false true = (refl, refl)
-audit_plain false false false = (refl, refl)
+audit_plain true true true true = (refl, refl)
+audit_plain true true true false = (refl, refl)
+audit_plain true true false true = (refl, refl)
+audit_plain true true false false = (refl, refl)
+audit_plain true false true true = (refl, refl)
+audit_plain true false true false = (refl, refl)
+audit_plain true false false true = (refl, refl)
+audit_plain true false false false = (refl, refl)
+audit_plain false true true true = (refl, refl)
+audit_plain false true true false = (refl, refl)
+audit_plain false true false true = (refl, refl)
+audit_plain false true false false = (refl, refl)
+audit_plain false false true true = (refl, refl)
+audit_plain false false true false = (refl, refl)
+audit_plain false false false true = (refl, refl)
+audit_plain false false false false = (refl, refl)
 
 -- the plain words for an order have no fault, and order it
 pub plain_words : (o : Order) → IsNumbered o → (fault_of command (words_of o) ≡ [])
@@ -259,16 +265,9 @@ plain_words Capture h = capture_plain
 plain_words Dissect h = dissect_plain
 plain_words Roll h = roll_plain
 plain_words Draw h = draw_plain
-plain_words (Audit asks draws) h = audit_plain asks.shows asks.strict draws
+plain_words (Audit asks draws) h = audit_plain asks.shows asks.strict asks.keys draws
 
--- ---- an order that was read
-
--- words without a fault were read as what they order
-pub read_as : (words : List Text) (o : Option Order) (r : Result Order Refusal)
-    → fault_of command words ≡ [] → o ≡ order_of words → r ≡ ok_or o refusals.Usage
-    → IfOk r (λ order. Orders words order)
-read_as words None r none is e = rw e tt
-read_as words (Some order) r none is e = rw e (none, sym is)
+-- ---- words that were refused
 
 -- an error without a kind is want of memory
 pub by_none : (kinds : Kinds) (e : Error) → kinds ≡ [] → HasKind kinds e → kind_of e ≡ errors.OutOfMemory

@@ -29,8 +29,9 @@ end_fault blames.None endings.Fault is = refl
 end_fault blames.None endings.InputLimit is = absurd (cc is)
 end_fault blames.None endings.KeyLimit is = absurd (cc is)
 end_fault blames.None (endings.Octet at why) is = absurd (cc is)
-end_fault blames.Refuted e is = absurd (cc is)
+end_fault (blames.Refuted breach) e is = absurd (cc is)
 end_fault (blames.Doubted wrong undecided) e is = absurd (cc is)
+end_fault blames.NotJudged e is = absurd (cc is)
 
 pub end_unwritten : (b : Blame) (e : Ending) → end_of b e ≡ Err ends.WriteFault → ⊥
 end_unwritten blames.None endings.Whole is = cc is
@@ -38,8 +39,9 @@ end_unwritten blames.None endings.Fault is = cc is
 end_unwritten blames.None endings.InputLimit is = cc is
 end_unwritten blames.None endings.KeyLimit is = cc is
 end_unwritten blames.None (endings.Octet at why) is = cc is
-end_unwritten blames.Refuted e is = cc is
+end_unwritten (blames.Refuted breach) e is = cc is
 end_unwritten (blames.Doubted wrong undecided) e is = cc is
+end_unwritten blames.NotJudged e is = cc is
 
 abbrev pub as_end : AuditEnd → Result (Unit {0}) AuditEnd
 as_end e = Err e

@@ -46,8 +46,8 @@ CarriesOut Roll o status =
 -- `draw`: how a transcript was drawn, and what was written of its picture
 CarriesOut Draw o status =
     (text : List ℕ) → o.left.left ≡ Some text → EndsAsDraw text o.left o.now o.old o.new status
--- `audit`, with or without `--packets` and `--strict`: what was read of keys and packets, what breaks of
--- them or is doubted, and what was written of the report
+-- `audit`, with or without `--packets`, `--strict` and `--keys`: what was read of keys and packets, what
+-- breaks of them or is doubted, and what was written of the report
 CarriesOut (Audit asks false) o status = (text : List ℕ) → o.left.left ≡ Some text
     → EndsAsAudit asks text o.now.left (Rose o.left.faults o.now.faults) o.old.held o.new.held status
 -- `audit --draw`: what was seen of keys and packets, how their audit ends, and what was written of the

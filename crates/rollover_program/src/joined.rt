@@ -1,51 +1,49 @@
-//! Octets, and behind them those of a source.
+//! A key text and a capture from two sources.
 
-ghost use Rattle.std.specs.Prelude.{◌≤◌, length};
-
+use crate::key_text::KeyText;
 use lan_base::{Failed, Source};
 
-/// A source that gives these octets, and then what another one gives.
+/// A source that gives the octets of a key text, what ends it, and then those of a capture.
 #[derive(Drop)]
-pub struct Joined<S: Source + Drop> {
-    first: Vec<u8>,
-    given: usize,
-    then: S,
-    ghost within: { given ≤ length first.items },
+pub struct Joined<K: Source + Drop, S: Source + Drop> {
+    keys: KeyText<K>,
+    capture: S,
 }
 
-impl<S: Source + Drop> Joined<S> {
-    ghost use Rattle.std.specs.Prelude.{◌≡◌};
-    ghost use Rattle.lan_base.specs.Told.{before};
+impl<K: Source + Drop, S: Source + Drop> Joined<K, S> {
+    ghost use Rattle.std.specs.Prelude.{◌≡◌, ◌+◌};
+    ghost use Rattle.rollover_program.specs.Joined.{joined};
 
-    /// These octets, and then what a source has left.
-    pub fn new(first: Vec<u8>, then: S) -> Joined<S>
-        ensures left { ⟦<Joined<S> as Source>⟧.left result ≡ before first.items (S.left then) }
-        ensures faults { ⟦<Joined<S> as Source>⟧.faults result ≡ S.faults then }
+    /// What the source of a key text has left, and that of a capture. Neither is read.
+    pub fn new(keys: K, capture: S) -> Joined<K, S>
+        ensures left { ⟦<Joined<K, S> as Source>⟧.left result
+            ≡ joined (K.left keys) (S.left capture) }
+        ensures faults { ⟦<Joined<K, S> as Source>⟧.faults result ≡ K.faults keys + S.faults capture }
     {
         Joined {
-            first,
-            given: 0,
-            then,
+            keys: KeyText::new(keys),
+            capture,
         }
     }
 }
 
-impl<S: Source + Drop> Source for Joined<S> {
-    ghost use Rattle.std.specs.Prelude.{drop};
+impl<K: Source + Drop, S: Source + Drop> Source for Joined<K, S> {
+    ghost use Rattle.std.specs.Prelude.{◌+◌, option_and_then, ⊤};
     ghost use Rattle.lan_base.specs.Told.{before};
 
-    ghost left = { λ j. before (drop j.given j.first.items) (S.left j.then) };
+    ghost left = { λ j. option_and_then (λ keys. before keys (S.left j.capture))
+        (⟦<KeyText<K> as Source>⟧.left j.keys) };
 
-    ghost faults = { λ j. S.faults j.then };
+    ghost faults = { λ j. ⟦<KeyText<K> as Source>⟧.faults j.keys + S.faults j.capture };
+
+    // In which turns the two are read is not said.
+    ghost Gave = { λ _ _ _. ⊤ };
 
     fn read(&mut self, into: &mut [u8]) -> Result<usize, Failed> {
-        let left = &self.first[self.given..];
-        if left.is_empty() {
-            return self.then.read(into);
+        let count = self.keys.read(into)?;
+        if count > 0 {
+            return Ok(count);
         }
-        let count = left.len().min(into.len());
-        into[..count].copy_from_slice(&left[..count]);
-        self.given += count;
-        Ok(count)
+        self.capture.read(into)
     }
 }

@@ -3,15 +3,18 @@
 #![tactic(auto)]
 
 mod commands;
+mod files;
 mod joined;
+mod key_text;
 mod laws;
 mod status;
 mod top;
-mod unread;
 mod words;
 
+pub use audit_report::Breach;
 pub use capture_file::CaptureFault;
 pub use capture_packets::CaptureFault as PacketFault;
+pub use files::{Files, files_of};
 pub use joined::Joined;
 pub use lan_core::Which;
 pub use laws::{
@@ -25,5 +28,3 @@ pub use trace_acts::Kind;
 pub use trace_text::TextFault;
 pub use transcript_capture::LineFault;
 pub use transcript_check::CheckFault;
-pub use unread::Unread;
-pub use words::key_file;

@@ -5,12 +5,14 @@ ghost use Rattle.lan_core.specs.declared.stop.Which.{Which};
 ghost use Rattle.trace_acts.specs.declared.halt.Kind.{Kind};
 ghost use Rattle.transcript_check.specs.declared.fault.CheckFault.{CheckFault};
 ghost use Rattle.transcript_capture.specs.declared.fault.LineFault.{LineFault};
+ghost use Rattle.audit_report.specs.declared.blame.Breach.{Breach};
 ghost use Rattle.capture_file.specs.declared.fault.CaptureFault.{CaptureFault};
 ghost use Rattle.capture_packets.specs.declared.fault.CaptureFault.{CaptureFault as PacketFault};
 ghost use Rattle.trace_text.specs.declared.fault.TextFault.{TextFault};
 ghost use Rattle.rollover_program.specs.inside.Answering.{status_of_unwritten};
 ghost use Rattle.rollover_program.specs.commands.Run.{status_of_halt, status_of_replay};
 
+use audit_report::Breach;
 use capture_file::CaptureFault;
 use capture_packets::CaptureFault as PacketFault;
 use lan_base::Unwritten;
@@ -30,7 +32,7 @@ pub enum Status {
     #[error("done")]
     Done,
     /// The words are no command.
-    #[error("usage: rollover run [--summary] | make N | try N | check | capture | dissect | roll | draw | audit [--packets] [--strict] [--draw] [KEYS]")]
+    #[error("usage: rollover run [--summary] | make N | try N | check | capture | dissect | roll | draw | audit [--packets] [--strict] [--keys] [--draw] [KEYS [CAPTURE]]")]
     Usage,
     /// The line of a trace with this number, from 1, is refused.
     #[error("line {line}: {kind}")]
@@ -79,13 +81,17 @@ pub enum Status {
     /// There are more keys in the input of `audit` than its limit.
     #[error("limit Keys")]
     Keys,
-    /// A capture was judged, and a pair of its packets breaks what is judged.
-    #[error("capture refuted")]
-    CaptureRefuted,
+    /// A capture was judged, and this pair of its packets, the least, breaks what is judged.
+    #[error("capture refuted: {0}")]
+    CaptureRefuted(Breach),
     /// A capture was judged, no pair of its packets breaks what is judged, but of its protected frames so
     /// many are wrong and so many undecided, and none was to be.
     #[error("capture doubted: {wrong} wrong, {undecided} undecided")]
     CaptureDoubted { wrong: u32, undecided: u32 },
+    /// A capture was judged, no pair of its packets breaks what is judged, and none of its protected frames
+    /// is wrong or undecided, but none is right either, and one was to be.
+    #[error("capture doubted: nothing judged")]
+    CaptureNotJudged,
     /// The capture of `audit` is refused: its head, or the record or block that begins at this octet.
     #[error("capture octet {at}: {why:?}")]
     Packets { at: u32, why: PacketFault },
@@ -118,9 +124,11 @@ impl Status {
         ensures key_line { (line : ℕ) (why : TextFault)
             → self ≡ Status.KeyLine line why → result ≡ 2 }
         ensures keys { self ≡ Status.Keys → result ≡ 6 }
-        ensures capture_refuted { self ≡ Status.CaptureRefuted → result ≡ 9 }
+        ensures capture_refuted { (breach : Breach)
+            → self ≡ Status.CaptureRefuted breach → result ≡ 9 }
         ensures capture_doubted { (wrong undecided : ℕ)
-            → self ≡ Status.CaptureDoubted wrong undecided → result ≡ 9 }
+            → self ≡ Status.CaptureDoubted wrong undecided → result ≡ 12 }
+        ensures capture_not_judged { self ≡ Status.CaptureNotJudged → result ≡ 12 }
         ensures packets { (at : ℕ) (why : PacketFault)
             → self ≡ Status.Packets at why → result ≡ 11 }
     {
@@ -141,8 +149,8 @@ impl Status {
             Status::Capture { .. } | Status::Packets { .. } => 11,
             Status::KeyLine { .. } => 2,
             Status::Keys => 6,
-            Status::CaptureRefuted => 9,
-            Status::CaptureDoubted { .. } => 9,
+            Status::CaptureRefuted(_) => 9,
+            Status::CaptureDoubted { .. } | Status::CaptureNotJudged => 12,
         }
     }
 }

@@ -8,6 +8,7 @@ ghost use Rattle.rollover_program.specs.declared.words.Order.TheVariants as orde
 ghost use Rattle.rollover_program.specs.Words.{IsNumbered, IsUsage, Orders, words_of};
 ghost use Rattle.rollover_program.specs.Outside.{outside};
 ghost use Rattle.rollover_program.specs.Carried.{CarriesOut, Completes, IsCarriedOut};
+ghost use Rattle.rollover_program.specs.Turned.{ShowsInTurn};
 ghost use Rattle.rollover_program.specs.commands.Audit.{IsCompleteAudit};
 ghost use Rattle.rollover_program.specs.inside.Answering.{status_of_refusal};
 
@@ -45,9 +46,10 @@ use twin_schedule::law_groups_of_tidy_worlds_are_sound;
 /// of two groups, and performs it as `run` does one of a single group. It writes the transcript of
 /// both, each line behind the number of its group. `draw` reads a transcript as `check` does, and
 /// writes the picture of its keys at the end. `audit` reads a key text and the capture behind it, and
-/// writes the report; with `--packets` each packet has a line, and with `--strict` no protected frame is
-/// to be wrong or undecided. With `--draw` it writes the picture in place of the report. What is said of
-/// each command is a row of `CarriesOut`, and one of `EndsUndisturbed`.
+/// writes the report; with `--packets` each packet has a line, with `--keys` the keys stand in it, and with
+/// `--strict` a protected frame is to be right, and none wrong or undecided. With `--draw` it writes the
+/// picture in place of the report. The files that its words name are no matter of this call (`files_of`,
+/// `Joined`). What is said of each command is a row of `CarriesOut`, and one of `EndsUndisturbed`.
 pub fn rollover<T: Threads + Sync, S: Source, K: Sink>(
     rt: &T,
     alloc: Global,
@@ -56,13 +58,13 @@ pub fn rollover<T: Threads + Sync, S: Source, K: Sink>(
     sink: &mut K,
     gate: &AnyGate,
 ) -> Status
-    // The words are no command exactly where clap refuses them, unless memory runs out; nothing was
-    // read, written or counted then. All other words order something, with a number from 1 to 9999
-    // where one is asked for; the plain words for an order do.
+    // The words are no command exactly where clap refuses them, unless memory runs out; with such words
+    // nothing is read, written or counted, whatever the status. All other words order something, with a
+    // number from 1 to 9999 where one is asked for; the plain words for an order do.
     ensures usage { result ≡ Status.Usage → IsUsage (map string_bytes words.now) }
     ensures refused { IsUsage (map string_bytes words.now)
         → (result ≡ Status.Usage) ⊎ (result ≡ Status.Memory) }
-    ensures untouched { result ≡ Status.Usage
+    ensures untouched { IsUsage (map string_bytes words.now)
         → (source.new ≡ source.old) × (sink.new ≡ sink.old) }
     ensures ordered { (IsUsage (map string_bytes words.now) → ⊥)
         → (order : Order) × Orders (map string_bytes words.now) order × IsNumbered order }
@@ -75,6 +77,13 @@ pub fn rollover<T: Threads + Sync, S: Source, K: Sink>(
         (outside S.Source K.Sink source.old source.new sink.old sink.new) result }
     ensures unread { (n : ℕ) → Orders (map string_bytes words.now) (orders.Make n)
         ⊎ Orders (map string_bytes words.now) (orders.Try n) → source.new ≡ source.old }
+
+    // Whatever the source tells, `run`, `roll` and `capture` show what ends in what one read gives before
+    // the next one; or memory ran out before anything was read or written.
+    ensures turned { (order : Order) → Orders (map string_bytes words.now) order
+        → ((source.new ≡ source.old) × (sink.new ≡ sink.old) × (result ≡ Status.Memory))
+        ⊎ ShowsInTurn S.Gave order source.old source.new
+        (outside S.Source K.Sink source.old source.new sink.old sink.new) result }
 
     // Faults are those of the outside, whatever it tells.
     ensures read_cause { result ≡ Status.ReadFault
@@ -110,6 +119,8 @@ fn carry_out<T: Threads + Sync, S: Source, K: Sink>(
     gate: &AnyGate,
 ) -> Status
     ensures carried { IsCarriedOut order
+        (outside S.Source K.Sink source.old source.new sink.old sink.new) result }
+    ensures turned { ShowsInTurn S.Gave order source.old source.new
         (outside S.Source K.Sink source.old source.new sink.old sink.new) result }
     ensures audited { (asks : Asks) (draws : Bool) → order ≡ orders.Audit asks draws → IsCompleteAudit asks
         (outside S.Source K.Sink source.old source.new sink.old sink.new) result }

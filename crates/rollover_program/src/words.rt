@@ -1,12 +1,9 @@
 //! The words after the program's name.
 
-ghost use Rattle.std.specs.Prelude.{◌≡◌, ◌≢◌, ◌⊎◌, Err, IfOk, Some, false, map, option_and_then};
-ghost use Rattle.std.specs.Prelude.{string_bytes};
-ghost use Rattle.clap.specs.Words.{app_of, found_of, kind_of, rows_of, rule_of, subcommand_rows_of};
+ghost use Rattle.std.specs.Prelude.{◌≡◌, ◌≢◌, ◌⊎◌, Err, IfOk, [], false, map, option_and_then, string_bytes};
+ghost use Rattle.clap.specs.Words.{app_of, fault_of, found_of, kind_of, rows_of, rule_of, subcommand_of, subcommand_rows_of};
 ghost use Rattle.clap.specs.declared.error.kind.ErrorKind.TheVariants as kinds;
 ghost use Rattle.rollover_program.specs.Words.{IsUsage, Orders, asks_in, command, flag, is_given, number, order_by};
-ghost use Rattle.std.specs.Prelude.{option_map};
-ghost use Rattle.rollover_program.specs.Words.{key_file_in, order_of};
 
 use capture_audit::Asks;
 use clap::error::ErrorKind;
@@ -65,22 +62,35 @@ pub fn read_order(alloc: Global, words: &[String]) -> Result<Order, Refusal>
     ensures refused { IsUsage (map string_bytes words.now)
         → (result ≡ Err Refusal.Usage) ⊎ (result ≡ Err Refusal.Memory) }
 {
+    let matches = matches(alloc, words)?;
+    order_of(&matches).ok_or(Refusal::Usage)
+}
+
+/// What clap makes of the words after the program's name.
+pub fn matches<'a>(alloc: Global, words: &'a [String]) -> Result<ArgMatches<'a>, Refusal>
+    ensures taken { IfOk result (λ _. fault_of command (map string_bytes words.now) ≡ []) }
+    ensures rows { IfOk result (λ matches. subcommand_rows_of matches
+        ≡ subcommand_of command (map string_bytes words.now)) }
+    ensures usage { result ≡ Err Refusal.Usage → IsUsage (map string_bytes words.now) }
+{
     match command(alloc)?.try_get_matches_from(words) {
-        Ok(matches) => order_of(&matches).ok_or(Refusal::Usage),
+        Ok(matches) => Ok(matches),
         Err(error) => Err(refusal_of(&error)),
     }
 }
 
 /// The one command: `run [--summary]`, `make N`, `try N`, `check`, `capture`, `dissect`, `roll`,
-/// `draw` or `audit [--packets] [--strict] [--draw] [KEYS]`.
+/// `draw` or `audit [--packets] [--strict] [--keys] [--draw] [KEYS [CAPTURE]]`.
 fn command<'a>(alloc: Global) -> Result<Command<'a>, AllocError>
     ensures { IfOk result (λ r. app_of r ≡ command) }
 {
     let audit = Command::new(alloc, "audit")
         .arg(flag(alloc, "packets"))?
         .arg(flag(alloc, "strict"))?
+        .arg(flag(alloc, "keys"))?
         .arg(flag(alloc, "draw"))?
-        .arg(Arg::new(alloc, "KEYS"))?;
+        .arg(Arg::new(alloc, "KEYS"))?
+        .arg(Arg::new(alloc, "CAPTURE"))?;
     let rollover = Command::new(alloc, "rollover")
         .no_binary_name(true)
         .disable_help_flag(true)
@@ -153,6 +163,7 @@ fn asks_of(arguments: &ArgMatches<'_>) -> Asks
     Asks {
         shows: is_given(arguments, "packets"),
         strict: is_given(arguments, "strict"),
+        keys: is_given(arguments, "keys"),
     }
 }
 
@@ -173,21 +184,4 @@ fn refusal_of(error: &Error) -> Refusal
         ErrorKind::OutOfMemory => Refusal::Memory,
         _ => Refusal::Usage,
     }
-}
-
-/// The file that the words of `audit` name for its keys, which stands before the capture: the first
-/// further word that is neither one of its flags nor `--`. Whether the words are a command is not said.
-pub fn key_file(words: &[String]) -> Option<&String>
-    ensures { option_map (λ w. string_bytes w.now) result ≡ key_file_in (map string_bytes words.now) }
-{
-    let (first, others) = words.split_first()?;
-    if first.as_str() != "audit" {
-        return None;
-    }
-    others.iter().find(|word| {
-        word.as_str() != "--packets"
-            && word.as_str() != "--strict"
-            && word.as_str() != "--draw"
-            && word.as_str() != "--"
-    })
 }

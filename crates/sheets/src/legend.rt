@@ -6,7 +6,7 @@ use std::alloc::AllocError;
 /// The most entries of a legend.
 pub const ENTRIES_MAX: u64 = 40;
 /// How many colours there are.
-const COLOURS: u32 = 10;
+const COLOURS: u32 = 8;
 /// How many entries stand side by side.
 const ABREAST: u64 = 4;
 

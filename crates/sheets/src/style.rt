@@ -22,12 +22,14 @@ text{font:11px sans-serif;fill:#222}.name{font-weight:bold;font-size:";
 const SHAPES: &[u8] = b"px}.small{font-size:9px}\n\
 .label{font-size:9px;font-weight:bold;fill:#fff}.paper{fill:#fff}.grid{stroke:#ddd}.row{stroke:#ccc}\n";
 
-/// Ten colours, which stand for keys in turn, and what is other of all pictures on a dark page.
+/// Eight colours, which stand for keys in turn, with what is written on them, and what is other of all pictures on a dark page:
+/// eight others of about the same hues. `tools/colours` says how far apart they are for whom.
 const COLOURS: &[u8] = b"\
-.k0{fill:#7a5195}.k1{fill:#1f6fb4}.k2{fill:#c25a00}.k3{fill:#17805f}.k4{fill:#a3347a}.k5{fill:#4f7d16}\n\
-.k6{fill:#8c5f14}.k7{fill:#5a5a5a}.k8{fill:#0e7f8c}.k9{fill:#b03a2e}\n\
-@media (prefers-color-scheme:dark){text{fill:#e8e8e8}.label{fill:#fff}.paper{fill:#16181c}.grid{stroke:#333}\n\
-.row{stroke:#444}";
+.k0{fill:#5a2d5a}.k1{fill:#694bc3}.k2{fill:#969600}.k3{fill:#0fa596}.k4{fill:#a50f0f}.k5{fill:#a578ff}.k6{fill:#4b785a}\n\
+.k7{fill:#ff3c87}.k2 .label,.k3 .label,.k5 .label,.k7 .label{fill:#000}\n\
+@media (prefers-color-scheme:dark){text{fill:#e8e8e8}.paper{fill:#16181c}.grid{stroke:#333}.row{stroke:#444}\n\
+.k0{fill:#964b87}.k1{fill:#0069ff}.k2{fill:#b4b400}.k3{fill:#00ffa5}.k4{fill:#d20000}.k5{fill:#f0b4ff}.k6{fill:#4bb4a5}\n\
+.k7{fill:#e15a78}.label{fill:#fff}.k6 .label{fill:#000}\n";
 
 /// Appends the style sheet of a picture.
 pub fn put_style(into: &mut Vec<u8>, look: &Look) -> Result<(), AllocError> {

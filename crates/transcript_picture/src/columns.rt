@@ -1,68 +1,18 @@
 //! What arrived, counted in columns.
 
+use crate::kind::Tally;
 use rx_slots::Arrival;
 use std::alloc::{AllocError, Global};
 
 /// The most columns of a station.
 const MOST: u32 = 202;
 
-/// What arrived within one column.
-#[derive(Clone, Copy)]
-pub struct Tally {
-    pub accepted: u64,
-    pub late: u64,
-    pub missed: u64,
-    pub bad: u64,
-}
-
-impl Tally {
-    /// Nothing.
-    const NONE: Tally = Tally {
-        accepted: 0,
-        late: 0,
-        missed: 0,
-        bad: 0,
-    };
-
-    /// That of one arrival. A station's own frames count nowhere.
-    fn of(arrival: &Arrival) -> Tally {
-        match arrival {
-            Arrival::Accepted { .. } => Tally {
-                accepted: 1,
-                ..Tally::NONE
-            },
-            Arrival::Late { .. } => Tally {
-                late: 1,
-                ..Tally::NONE
-            },
-            Arrival::Missed { .. } => Tally {
-                missed: 1,
-                ..Tally::NONE
-            },
-            Arrival::BadCheck | Arrival::Malformed(_) => Tally {
-                bad: 1,
-                ..Tally::NONE
-            },
-            Arrival::Own => Tally::NONE,
-        }
-    }
-
-    /// Both together.
-    pub fn plus(self, other: Tally) -> Tally {
-        Tally {
-            accepted: self.accepted.saturating_add(other.accepted),
-            late: self.late.saturating_add(other.late),
-            missed: self.missed.saturating_add(other.missed),
-            bad: self.bad.saturating_add(other.bad),
-        }
-    }
-}
-
-/// What arrived at each station, in columns of as many ticks each as make them few.
+/// What arrived at each station, in columns of as many ticks each as make them few, and at all of them.
 #[derive(Drop)]
 pub struct Columns {
     alloc: Global,
     ticks: u32,
+    all: Tally,
     lanes: Vec<Vec<Tally>>,
 }
 
@@ -72,6 +22,7 @@ impl Columns {
         Columns {
             alloc,
             ticks: 1,
+            all: Tally::NONE,
             lanes: Vec::new(alloc),
         }
     }
@@ -79,6 +30,11 @@ impl Columns {
     /// How many ticks a column has.
     pub fn ticks(&self) -> u32 {
         self.ticks
+    }
+
+    /// What arrived at all stations.
+    pub fn all(&self) -> Tally {
+        self.all
     }
 
     /// The columns of a station, as far as something arrived.
@@ -91,6 +47,7 @@ impl Columns {
 
     /// Something arrives at a station at this tick.
     pub fn take(&mut self, station: u8, at: u32, arrival: &Arrival) -> Result<(), AllocError> {
+        self.all = self.all.plus(Tally::of(arrival));
         self.widen(at);
         let column = self.column_of(at) as usize;
         self.reach(station as usize, column)?;

@@ -1,60 +1,26 @@
 //! What arrived at one station, column by column.
 
-use crate::columns::{Columns, Tally};
+use crate::columns::Columns;
+use crate::kind::{Kind, Tally};
+use crate::layout::{Layout, STRIP};
 use crate::scale::Scale;
 use sheets::{Piece, put, put_titled_rect};
 use std::alloc::AllocError;
 
-/// How high the strip of one kind is, in units.
-const STRIP: u32 = 11;
-
-/// A kind of arrival: its word, and its count.
-#[derive(Clone, Copy)]
-enum Kind {
-    Accepted,
-    Late,
-    Missed,
-    Bad,
-}
-
-impl Kind {
-    /// All kinds, from the top.
-    const ALL: [Kind; 4] = [Kind::Accepted, Kind::Late, Kind::Missed, Kind::Bad];
-
-    /// Its word.
-    fn word(self) -> &'static [u8] {
-        match self {
-            Kind::Accepted => b"accepted",
-            Kind::Late => b"late",
-            Kind::Missed => b"missed",
-            Kind::Bad => b"bad",
-        }
-    }
-
-    /// Its count.
-    fn of(self, tally: &Tally) -> u64 {
-        match self {
-            Kind::Accepted => tally.accepted,
-            Kind::Late => tally.late,
-            Kind::Missed => tally.missed,
-            Kind::Bad => tally.bad,
-        }
-    }
-}
-
-/// Appends the four strips of a station, whose top is so far down.
+/// Appends the strips of a station below this height.
 pub fn put_counts(
     into: &mut Vec<u8>,
     columns: &Columns,
+    layout: &Layout,
     scale: Scale,
     station: u8,
     top: u32,
 ) -> Result<(), AllocError> {
     let tallies = columns.of(station);
-    let mut foot = top.saturating_add(STRIP);
-    for kind in Kind::ALL {
-        put_strip(into, kind, tallies, columns.ticks(), scale, foot)?;
+    let mut foot = top;
+    for kind in &layout.kinds {
         foot = foot.saturating_add(STRIP);
+        put_strip(into, *kind, tallies, columns.ticks(), scale, foot)?;
     }
     Ok(())
 }
@@ -72,7 +38,7 @@ fn put_strip(
     let most = greatest(kind, tallies);
     let mut all = 0u64;
     let mut from = 0u64;
-    put_word(into, kind, foot)?;
+    put_word(into, kind.word(), foot)?;
     for tally in tallies {
         let count = kind.of(tally);
         let to = from.saturating_add(u64::from(ticks));
@@ -85,22 +51,22 @@ fn put_strip(
     put_sum(into, all, foot)
 }
 
-/// Appends the word of a kind, before its strip.
-fn put_word(into: &mut Vec<u8>, kind: Kind, foot: u32) -> Result<(), AllocError> {
+/// Appends a word before its strip.
+pub fn put_word(into: &mut Vec<u8>, word: &[u8], foot: u32) -> Result<(), AllocError> {
     put(
         into,
         &[
             Piece::Text(b"<text class=\"small\" x=\"62\" y=\""),
             Piece::Number(u64::from(foot)),
             Piece::Text(b"\">"),
-            Piece::Text(kind.word()),
+            Piece::Text(word),
             Piece::Text(b"</text>"),
         ],
     )
 }
 
-/// Appends how many arrivals of a kind there were, behind its strip.
-fn put_sum(into: &mut Vec<u8>, all: u64, foot: u32) -> Result<(), AllocError> {
+/// Appends how many there were, behind their strip.
+pub fn put_sum(into: &mut Vec<u8>, all: u64, foot: u32) -> Result<(), AllocError> {
     put(
         into,
         &[

@@ -1,4 +1,4 @@
-//! The lives of one station, and when it served.
+//! The lives of one station.
 
 use lan_base::Mi;
 use std::alloc::{AllocError, Global};
@@ -19,26 +19,11 @@ impl Timed for Birth {
     }
 }
 
-/// The station elected itself at this tick, and no more from another one on.
-#[derive(Clone, Copy)]
-pub struct Service {
-    pub from: u32,
-    pub to: Option<u32>,
-}
-
-impl Timed for Service {
-    ghost time = { λ service. service.from };
-
-    fn at(&self) -> u32 {
-        self.from
-    }
-}
-
-/// The lives of one station, and when it served, the earliest first, in few columns.
+/// The lives of one station, the earliest first, in few columns, and how many there were.
 #[derive(Drop)]
 pub struct History {
     births: Thinned<Birth>,
-    services: Thinned<Service>,
+    lives: u32,
 }
 
 impl History {
@@ -46,7 +31,7 @@ impl History {
     pub fn new(alloc: Global) -> History {
         History {
             births: Thinned::new(alloc),
-            services: Thinned::new(alloc),
+            lives: 0,
         }
     }
 
@@ -55,35 +40,17 @@ impl History {
         &self.births
     }
 
-    /// When it served.
-    pub fn services(&self) -> &Thinned<Service> {
-        &self.services
+    /// Which life this member is, from 1, if it is the station's now.
+    pub fn life_of(&self, mi: Mi) -> Option<u32> {
+        match self.births.last() {
+            Some(birth) if birth.mi == mi => Some(self.lives),
+            _ => None,
+        }
     }
 
     /// A life begins.
     pub fn begin(&mut self, at: u32, mi: Mi) -> Result<(), AllocError> {
-        self.rest(at);
+        self.lives = self.lives.saturating_add(1);
         self.births.add(Birth { at, mi })
-    }
-
-    /// This server is elected from now on.
-    pub fn elect(&mut self, at: u32, server: Option<Mi>) -> Result<(), AllocError> {
-        self.rest(at);
-        match (server, self.births.last()) {
-            (Some(server), Some(birth)) if server == birth.mi => {
-                self.services.add(Service { from: at, to: None })
-            }
-            _ => Ok(()),
-        }
-    }
-
-    /// The station serves no more, if it did.
-    fn rest(&mut self, at: u32) {
-        if let Some(service) = self.services.last() {
-            self.services.renew(Service {
-                from: service.from,
-                to: service.to.or(Some(at)),
-            });
-        }
     }
 }

@@ -5,7 +5,7 @@ use std::alloc::{AllocError, Global};
 use transcript_reader::{FactReader, Form, station_of};
 
 /// How many places there are of stations, of both groups.
-const PLACES: u8 = 32;
+pub const PLACES: u8 = 32;
 
 /// The place of a station that has a lane, and what it is called.
 #[derive(Drop)]
@@ -20,15 +20,25 @@ pub fn labels(alloc: Global, scene: &Scene, reader: &FactReader) -> Result<Vec<L
     let mut labels = Vec::new(alloc);
     for place in 0..PLACES {
         if scene.has_lived(place) {
-            let text = text_of(alloc, reader, place)?;
+            let text = label_of(alloc, reader, place)?;
             labels.push(Label { place, text })?;
         }
     }
     Ok(labels)
 }
 
-/// What the station of a place is called.
-fn text_of(alloc: Global, reader: &FactReader, place: u8) -> Result<Vec<u8>, AllocError> {
+/// What the station of a place is called by these labels.
+pub fn text_of(labels: &[Label], place: u8) -> &[u8] {
+    for label in labels {
+        if label.place == place {
+            return label.text.as_slice();
+        }
+    }
+    b""
+}
+
+/// What the station of a place is to be called.
+fn label_of(alloc: Global, reader: &FactReader, place: u8) -> Result<Vec<u8>, AllocError> {
     let mut text = Vec::new(alloc);
     let station = station_of(place);
     if reader.form() == Some(Form::TwoGroups) {

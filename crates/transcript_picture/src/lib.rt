@@ -4,17 +4,28 @@
 
 mod axis;
 mod bars;
+mod beside;
+mod births;
 mod columns;
 mod counts;
 mod drawing;
+mod ends;
 mod history;
+mod judged;
+mod keys;
+mod kind;
 mod labels;
 mod lanes;
 mod laws;
+mod layout;
 mod legend;
+mod piles;
+mod reigns;
 mod scale;
 mod scene;
+mod sent;
 mod sheet;
+mod signs;
 mod sketch;
 mod style;
 

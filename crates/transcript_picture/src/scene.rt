@@ -4,31 +4,32 @@ ghost use Rattle.std.specs.Prelude.{◌≡◌, ◌++◌, ◌∷◌, [], List, On
 ghost use Rattle.lan_core.specs.declared.fact.Fact.{Fact};
 ghost use Rattle.transcript_picture.specs.Standing.{Shows};
 
+use crate::beside::Beside;
 use crate::columns::Columns;
 use crate::history::History;
 use crate::legend::Legend;
-use key_spans::Spans;
-use lan_base::Mi;
+use key_spans::{Reigns, Seats, Sends, Spans};
 use lan_core::Fact;
 use std::alloc::{AllocError, Global};
 use std::marker::Model;
 
-/// The spans of the facts so far, what arrived, the lives, and who served. Contracts see the spans.
+/// What is shown of the facts so far: the spans, when stations left a group, when they served, and what they sent; and, of which
+/// contracts say nothing, what arrived, the identifiers of keys, and the lives.
 #[derive(Drop)]
 pub struct Scene {
     spans: Spans,
-    columns: Columns,
-    legend: Legend,
-    histories: Vec<History>,
-    alloc: Global,
+    seats: Seats,
+    reigns: Reigns,
+    sends: Sends,
+    beside: Beside,
 }
 
 impl Model for Scene {
-    ghost use Rattle.key_spans.specs.Standing.{KeptSpans};
+    ghost use Rattle.transcript_picture.specs.Standing.{KeptScene};
 
-    ghost Value = { KeptSpans };
+    ghost Value = { KeptScene };
 
-    ghost view = { λ s. s.spans };
+    ghost view = { λ s. record { spans = s.spans; seats = s.seats; reigns = s.reigns; sends = s.sends } };
 }
 
 impl Scene {
@@ -38,10 +39,10 @@ impl Scene {
     {
         Scene {
             spans: Spans::new(alloc),
-            columns: Columns::new(alloc),
-            legend: Legend::new(alloc),
-            histories: Vec::new(alloc),
-            alloc,
+            seats: Seats::new(alloc),
+            reigns: Reigns::new(alloc),
+            sends: Sends::new(alloc),
+            beside: Beside::new(alloc),
         }
     }
 
@@ -51,25 +52,11 @@ impl Scene {
             → OnOk result (Shows (facts ++ fact.now ∷ []) self.new) }
     {
         let at = self.spans.clock();
-        self.note(at, fact)?;
+        self.beside.note(at, fact)?;
+        self.seats.take(fact)?;
+        self.reigns.take(fact)?;
+        self.sends.take(fact)?;
         self.spans.take(fact)
-    }
-
-    /// What is beside the spans goes on with a fact of this time.
-    fn note(&mut self, at: u32, fact: &Fact) -> Result<(), AllocError>
-        ensures { self.new ≡ self.old }
-    {
-        match fact {
-            Fact::Life { station, mi } => self.begin(*station, at, *mi),
-            Fact::Server { station, mi } => self.elect(*station, at, *mi),
-            Fact::Installed { id, .. } => self.legend.note(*id),
-            Fact::Arrived {
-                station,
-                arrival,
-                ..
-            } => self.columns.take(*station, at, arrival),
-            _ => Ok(()),
-        }
     }
 
     /// The spans.
@@ -77,19 +64,34 @@ impl Scene {
         &self.spans
     }
 
+    /// When stations left a group.
+    pub(crate) fn seats(&self) -> &Seats {
+        &self.seats
+    }
+
+    /// When stations served.
+    pub(crate) fn reigns(&self) -> &Reigns {
+        &self.reigns
+    }
+
+    /// What stations sent.
+    pub(crate) fn sends(&self) -> &Sends {
+        &self.sends
+    }
+
     /// What arrived.
     pub(crate) fn columns(&self) -> &Columns {
-        &self.columns
+        &self.beside.columns
     }
 
     /// The identifiers.
     pub(crate) fn legend(&self) -> &Legend {
-        &self.legend
+        &self.beside.legend
     }
 
-    /// The lives of a station, and when it served.
+    /// The lives of a station.
     pub(crate) fn history(&self, station: u8) -> Option<&History> {
-        self.histories.get(station as usize)
+        self.beside.history(station)
     }
 
     /// Whether a station began a life.
@@ -98,36 +100,5 @@ impl Scene {
             Some(history) => history.births().latest().is_some(),
             None => false,
         }
-    }
-
-    /// A station begins a life.
-    fn begin(&mut self, station: u8, at: u32, mi: Mi) -> Result<(), AllocError>
-        ensures { self.new ≡ self.old }
-    {
-        self.reach(station)?;
-        match self.histories.get_mut(station as usize) {
-            Some(history) => history.begin(at, mi),
-            None => Ok(()),
-        }
-    }
-
-    /// A station elects this server from now on.
-    fn elect(&mut self, station: u8, at: u32, server: Option<Mi>) -> Result<(), AllocError>
-        ensures { self.new ≡ self.old }
-    {
-        match self.histories.get_mut(station as usize) {
-            Some(history) => history.elect(at, server),
-            None => Ok(()),
-        }
-    }
-
-    /// A station has a history from now on.
-    fn reach(&mut self, station: u8) -> Result<(), AllocError>
-        ensures { self.new ≡ self.old }
-    {
-        for _ in self.histories.len()..station as usize + 1 {
-            self.histories.push(History::new(self.alloc))?;
-        }
-        Ok(())
     }
 }

@@ -11,7 +11,7 @@ use std::marker::Model;
 use transcript_check::{CheckError, CheckFault, Epochs};
 use transcript_reader::{FactTaker, TakeError};
 
-/// What is kept of the facts so far. Contracts see the SAKs that stations installed, and the spans.
+/// What is kept of the facts so far. Contracts see the SAKs that stations installed, and what is seen of the scene.
 #[derive(Drop)]
 pub struct Sketch {
     epochs: Epochs,
@@ -23,7 +23,7 @@ impl Model for Sketch {
 
     ghost Value = { KeptSketch };
 
-    ghost view = { λ s. record { saks = s.epochs; spans = s.scene } };
+    ghost view = { λ s. record { saks = s.epochs; scene = s.scene } };
 }
 
 impl Sketch {

@@ -7,7 +7,7 @@ use Rattle.use_notes.specs.declared.frame.RightFrame.{RightFrame}
 use Rattle.use_notes.specs.declared.frame.First.{First}
 use Rattle.use_notes.specs.declared.novelty.Novelty.{Novelty}
 use Rattle.use_notes.specs.declared.counts.Counts.{Counts}
-use Rattle.use_notes.specs.Frames.{IsBehind, AreInOrder, first_of, novelty, is_new, is_repeated, is_reused, is_fresh}
+use Rattle.use_notes.specs.Frames.{IsBehind, AreInOrder, first_alike, novelty, is_new, is_repeated, is_reused, is_fresh}
 use Rattle.use_notes.specs.Uses.{told, fresh, greatest_pn, least_pn, oldest_packet, newest_packet, is_fallen, fallen, lag, counts_of}
 use Rattle.use_notes.specs.inside.Keeping.{more_of, lower_of, counts_with}
 
@@ -180,13 +180,14 @@ same-counts a b frames low high first last repeated longest reused fell window c
   clear = clear t;
 }
 
-pub counted : (fs : List RightFrame) (e : RightFrame) (c : Counts) (first : Option First)
-    → c ≡ counts_of fs → first ≡ first_of e.pn fs → AreInOrder (e ∷ fs) → e.packet ≤ top
-    → counts_with c first e ≡ counts_of (e ∷ fs)
-counted fs e c first is found order less =
-    ap (λ (c : Counts). counts_with c first e) is
-    ∙ ap (λ (o : Option First). counts_with (counts_of fs) o e) found
-    ∙ same-counts (counts_with (counts_of fs) (first_of e.pn fs) e) (counts_of (e ∷ fs))
+pub counted : (fs : List RightFrame) (e : RightFrame) (c : Counts) (told : Novelty) (alike : Option First)
+    → c ≡ counts_of fs → told ≡ novelty fs e → alike ≡ first_alike e.pn e.check fs → AreInOrder (e ∷ fs)
+    → e.packet ≤ top → counts_with c told alike e ≡ counts_of (e ∷ fs)
+counted fs e c new alike is told_is found order less =
+    ap (λ (c : Counts). counts_with c new alike e) is
+    ∙ ap (λ (t : Novelty). counts_with (counts_of fs) t alike e) told_is
+    ∙ ap (λ (o : Option First). counts_with (counts_of fs) (novelty fs e) o e) found
+    ∙ same-counts (counts_with (counts_of fs) (novelty fs e) (first_alike e.pn e.check fs) e) (counts_of (e ∷ fs))
     (more-is (length fs) (length fs) true (omega arith) fits ∙ one-more (length fs))
     (lower-is e fs)
     refl

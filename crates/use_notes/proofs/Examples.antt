@@ -45,11 +45,28 @@ other_sender = refl
 other_key : novelty_in five (frame 6 2 7 1 9 50) ≡ New
 other_key = refl
 
--- the reused frame once more: it is the first one that counts
-again : novelty_in five (frame 6 1 7 1 9 50) ≡ Reused 1
+-- the reused frame once more, as a second interface sees it
+again : novelty_in five (frame 6 1 7 1 9 50) ≡ Repeated 5
 again = refl
 
--- and that one once more
+-- the time to it is measured from the reused frame, and not from the first with its number
+mirror : (counts_of (frame 6 1 7 1 9 57 ∷ five)).longest ≡ 17
+mirror = refl
+
+-- a third frame of the number is reused, its mirror repeats it, and neither is a pair before the first one
+third : novelty_in (frame 6 1 7 1 9 50 ∷ five) (frame 7 1 7 1 2 60) ≡ Reused 1
+third = refl
+
+third_again : novelty_in (frame 7 1 7 1 2 60 ∷ frame 6 1 7 1 9 50 ∷ five) (frame 8 1 7 1 2 70) ≡ Repeated 7
+third_again = refl
+
+mirrored : first_reuse (frame 7 1 7 1 2 60 ∷ frame 6 1 7 1 9 50 ∷ five) ≡ Some (1, 5)
+mirrored = refl
+
+mirrors_counted : (counts_of (frame 8 1 7 1 2 70 ∷ frame 7 1 7 1 2 60 ∷ frame 6 1 7 1 9 50 ∷ five)).reused ≡ 2
+mirrors_counted = refl
+
+-- the first one once more
 first_again : novelty_in five (frame 6 1 7 1 4 50) ≡ Repeated 1
 first_again = refl
 

@@ -11,7 +11,7 @@ use Rattle.std.proofs.lemmas.Bool.{eq-eqb, ne_eqb, cases_eq}
 use Rattle.std.proofs.lemmas.Map.Lookups.{CmpEqualImpliesEq, exact_unsigned}
 use Rattle.use_notes.specs.declared.frame.RightFrame.{RightFrame}
 use Rattle.use_notes.specs.declared.frame.First.{First}
-use Rattle.use_notes.specs.Frames.{first_of, note_of, note_here}
+use Rattle.use_notes.specs.Frames.{first_of, note_of, note_here, novelty_after, is_new, is_repeated, is_reused}
 
 pub equal : (o : Ordering) → is_eq o ≡ true → o ≡ Equal
 equal Less e = absurd (cc e)
@@ -41,7 +41,7 @@ pub or-none : (o : Option First) → option_or o None ≡ o
 or-none None = refl
 or-none (Some x) = refl
 
-or-some : (o p : Option First) → is_some o ≡ true → option_or o p ≡ o
+pub or-some : (o p : Option First) → is_some o ≡ true → option_or o p ≡ o
 or-some None p some = absurd (cc some)
 or-some (Some x) p some = refl
 
@@ -78,6 +78,29 @@ first-put fs e old new was none changes here pn = go (cases_eq pn e.pn)
         untouched nat_cmp exact_unsigned e.pn (note_of e) old new changes pn apart ∙ was pn
         ∙ sym (or-none (first_of pn fs)) ∙ ap (option_or (first_of pn fs)) (sym (other-here pn e apart))
 
-pub none-of : (o : Option First) → is_some o ≡ false → o ≡ None
-none-of None none = refl
-none-of (Some x) none = absurd (cc none)
+pub none-before : (pn : ℕ) (f : RightFrame) (fs : List RightFrame) → first_of pn (f ∷ fs) ≡ None
+    → first_of pn fs ≡ None
+none-before pn f fs none = go (first_of pn fs) none
+  where
+    go : (o : Option First) → option_or o (note_here pn f) ≡ None → o ≡ None
+    go None is = refl
+    go (Some x) is = absurd (cc is)
+
+-- ---- what a frame is by the first ones before it
+
+pub new-none : (o alike : Option First) → is_new (novelty_after o alike) ≡ true → o ≡ None
+new-none None alike is = refl
+new-none (Some f) None is = absurd (cc is)
+new-none (Some f) (Some g) is = absurd (cc is)
+
+pub reused-some : (o alike : Option First) → is_reused (novelty_after o alike) ≡ true
+    → (is_some o ≡ true) × (alike ≡ None)
+reused-some None alike is = absurd (cc is)
+reused-some (Some f) None is = (refl, refl)
+reused-some (Some f) (Some g) is = absurd (cc is)
+
+pub repeated-some : (o alike : Option First) → is_repeated (novelty_after o alike) ≡ true
+    → (is_some o ≡ true) × (is_some alike ≡ true)
+repeated-some None alike is = absurd (cc is)
+repeated-some (Some f) None is = absurd (cc is)
+repeated-some (Some f) (Some g) is = (refl, refl)

@@ -1,6 +1,7 @@
 mod Counting
 mod Firsts
 mod Numbers
+mod Alikes
 mod Judging
 mod Putting
 mod Listing

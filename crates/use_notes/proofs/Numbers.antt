@@ -24,7 +24,7 @@ same-lists a b e = exact_bytes a b (equal (slice_cmp nat_cmp a b) (sym (texts_ti
 pub list-itself : (a : List ℕ) → pointwise nat_eq a a ≡ true
 list-itself a = nat_list_eq_equiv.refl a
 
-list_dec : (a b : List ℕ) → Told a b
+pub list_dec : (a b : List ℕ) → Told a b
 list_dec a b = go (pointwise nat_eq a b) refl
   where
     go : (c : Bool) → pointwise nat_eq a b ≡ c → Told a b

@@ -1,14 +1,12 @@
 -- The window is the least under which none of the new frames is late.
-use Rattle.std.proofs.Common.{◌≡◌, ◌≢◌, ◌∙◌, ◌<◌, ◌≤◌, ◌+◌, ◌-◌, ◌⊎◌, inl, inr, ℕ, Bool, true, false, cond, List, [], ◌∷◌, Option, Some, None, max, refl, sym, ap, arith}
+use Rattle.std.proofs.Common.{◌≡◌, ◌≢◌, ◌∙◌, ◌<◌, ◌≤◌, ◌+◌, ◌-◌, ◌⊎◌, inl, inr, ℕ, Bool, true, false, cond, List, [], ◌∷◌, None, max, refl, sym, ap, arith}
 use Rattle.std.specs.Prelude.{◌&&◌, nat_lt}
 use Rattle.std.specs.Option.{option_or}
 use Rattle.std.proofs.lemmas.Bool.{ltb-true, ltb-false, cases_lt}
 use Rattle.use_notes.specs.declared.frame.RightFrame.{RightFrame}
-use Rattle.use_notes.specs.declared.frame.First.{First}
-use Rattle.use_notes.specs.declared.novelty.Novelty.TheVariants.{Repeated, Reused}
-use Rattle.use_notes.specs.Frames.{first_of, note_here, same_check, novelty, novelty_after, is_new}
+use Rattle.use_notes.specs.Frames.{first_alike, first_of, note_here, novelty, is_new}
 use Rattle.use_notes.specs.Uses.{greatest_pn, lag, window, IsInTime, AreInTime}
-use Rattle.use_notes.proofs.Firsts.{same-here}
+use Rattle.use_notes.proofs.Firsts.{new-none, none-before, same-here}
 
 -- ---- all numbers before
 
@@ -37,14 +35,6 @@ abbrev IsApart : ℕ → List RightFrame → Type 0
 IsApart pn [] = Unit {0}
 IsApart pn (f ∷ fs) = (f.pn ≢ pn) × IsApart pn fs
 
-none-before : (pn : ℕ) (f : RightFrame) (fs : List RightFrame) → first_of pn (f ∷ fs) ≡ None
-    → first_of pn fs ≡ None
-none-before pn f fs none = go (first_of pn fs) none
-  where
-    go : (o : Option First) → option_or o (note_here pn f) ≡ None → o ≡ None
-    go None is = refl
-    go (Some x) is = absurd (cc is)
-
 apart-here : (pn : ℕ) (f : RightFrame) (fs : List RightFrame) → first_of pn (f ∷ fs) ≡ None → f.pn ≢ pn
 apart-here pn f fs none is =
     cc (sym (same-here f) ∙ ap (λ n. note_here n f) is
@@ -59,14 +49,6 @@ greatest-apart : (pn : ℕ) (fs : List RightFrame) → IsApart pn fs → greates
 greatest-apart pn [] apart below w e is = tt
 greatest-apart pn (f ∷ fs) apart below w e is =
     let no = apart.0 in (omega (arith, no, below, is), greatest-apart pn fs apart.1 (omega (arith, below)) w e is)
-
-new-none : (o : Option First) (e : RightFrame) → is_new (novelty_after o e) ≡ true → o ≡ None
-new-none None e is = refl
-new-none (Some f) e is = absurd (go (same_check f.check e.check) is)
-  where
-    go : (b : Bool) → is_new (cond b (Repeated f.packet) (Reused f.packet)) ≡ true → ⊥
-    go true is = cc is
-    go false is = cc is
 
 -- ---- one frame
 
@@ -84,7 +66,7 @@ lag-in w e fs less new = go (nat_lt e.pn (greatest_pn fs)) refl
         let same = lag-is true is in
         in-time-from w e fs (λ f gs some. omega (arith, same, less))
     go false is =
-        greatest-apart e.pn fs (all-apart e.pn fs (new-none (first_of e.pn fs) e new))
+        greatest-apart e.pn fs (all-apart e.pn fs (new-none (first_of e.pn fs) (first_alike e.pn e.check fs) new))
         (ltb-false e.pn (greatest_pn fs) is) w e refl
 
 lag-out : (w : ℕ) (e : RightFrame) (fs : List RightFrame) → (is_new (novelty fs e) ≡ true → IsInTime w e fs)

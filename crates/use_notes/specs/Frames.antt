@@ -41,15 +41,24 @@ first_of pn (e ∷ fs) = option_or (first_of pn fs) (note_here pn e)
 abbrev pub same_check : List ℕ → List ℕ → Bool
 same_check a b = pointwise nat_eq a b
 
--- a frame behind the first one with its packet number
-abbrev pub novelty_after : Option First → RightFrame → Novelty
-novelty_after None e = New
-novelty_after (Some first) e =
-    if same_check first.check e.check then Repeated first.packet else Reused first.packet
+abbrev pub alike_here : ℕ → List ℕ → RightFrame → Option First
+alike_here pn check e =
+    if (e.pn == pn) && same_check e.check check then Some (note_of e) else None
+
+-- the first with this packet number and this check value
+abbrev pub first_alike : ℕ → List ℕ → List RightFrame → Option First
+first_alike pn check [] = None
+first_alike pn check (e ∷ fs) = option_or (first_alike pn check fs) (alike_here pn check e)
+
+-- a frame behind the first one with its packet number, and the first one that has its check value, too
+abbrev pub novelty_after : Option First → Option First → Novelty
+novelty_after None alike = New
+novelty_after (Some first) None = Reused first.packet
+novelty_after (Some first) (Some alike) = Repeated alike.packet
 
 -- what a frame is behind those of its key and sender
 abbrev pub novelty : List RightFrame → RightFrame → Novelty
-novelty fs e = novelty_after (first_of e.pn fs) e
+novelty fs e = novelty_after (first_of e.pn fs) (first_alike e.pn e.check fs)
 
 -- what it is behind all right frames before it
 abbrev pub novelty_in : List RightFrame → RightFrame → Novelty

@@ -11,7 +11,7 @@ use Rattle.use_notes.specs.declared.novelty.Novelty.{Novelty}
 use Rattle.use_notes.specs.declared.counts.Counts.{Counts}
 use Rattle.use_notes.specs.declared.notes.Use.{Use}
 use Rattle.use_notes.specs.declared.order.Order.{Order}
-use Rattle.use_notes.specs.Frames.{frames_of, first_of, novelty, same_check, is_new, is_repeated, is_reused, is_fresh}
+use Rattle.use_notes.specs.Frames.{frames_of, first_alike, novelty, is_new, is_repeated, is_reused, is_fresh}
 
 -- ---- of frames of one key and sender
 
@@ -41,14 +41,15 @@ abbrev pub newest_packet : List RightFrame → ℕ
 newest_packet [] = 0
 newest_packet (e ∷ fs) = e.packet
 
--- how many whole milliseconds after the first a frame repeats it, 0 where times fall back
+-- how many whole milliseconds after the first one with its number and check value a frame repeats that,
+-- 0 where times fall back
 abbrev pub delay : Option First → RightFrame → ℕ
 delay None e = 0
-delay (Some first) e = if same_check first.check e.check then (e.time - first.time) / 1000000 else 0
+delay (Some alike) e = (e.time - alike.time) / 1000000
 
 abbrev pub longest_delay : List RightFrame → ℕ
 longest_delay [] = 0
-longest_delay (e ∷ fs) = max (delay (first_of e.pn fs) e) (longest_delay fs)
+longest_delay (e ∷ fs) = max (delay (first_alike e.pn e.check fs) e) (longest_delay fs)
 
 -- a new frame with a packet number below one before
 abbrev pub is_fallen : List RightFrame → RightFrame → Bool

@@ -2,7 +2,7 @@
 
 ghost use Rattle.std.specs.Prelude.{◌≡◌, ◌==◌, ◌&&◌, if◌then◌else◌, not, List, [], ◌∷◌};
 ghost use Rattle.use_notes.specs.declared.frame.RightFrame.{RightFrame};
-ghost use Rattle.use_notes.specs.Frames.{AreInOrder, first_of, is_fresh};
+ghost use Rattle.use_notes.specs.Frames.{AreInOrder, first_alike, is_fresh, novelty as novelty_of};
 ghost use Rattle.use_notes.specs.Uses.{counts_of, delay};
 ghost use Rattle.use_notes.specs.inside.Keeping.{counts_with, lag_behind, lower_of, more_of};
 
@@ -27,7 +27,7 @@ pub struct Counts {
     pub last: u32,
     /// How many repeat an earlier one.
     pub repeated: u32,
-    /// The longest time from a first frame to a repetition, in whole milliseconds.
+    /// The longest time from a frame to a repetition of it, in whole milliseconds.
     pub longest: u64,
     /// How many use an earlier one's packet number with another check value.
     pub reused: u32,
@@ -59,14 +59,15 @@ impl Counts {
         }
     }
 
-    /// Of a frame more, behind the first one with its packet number, if there is one.
-    pub(crate) fn with(&self, frame: &RightFrame, first: Option<First>) -> Counts
-        ensures step { result ≡ counts_with self.now first frame.now }
+    /// Of a frame more, by what it is behind those before it, and by the first one that it is alike, if
+    /// there is one.
+    pub(crate) fn with(&self, frame: &RightFrame, novelty: Novelty, alike: Option<First>) -> Counts
+        ensures step { result ≡ counts_with self.now novelty alike frame.now }
         ensures counted { (fs : List RightFrame) → self.now ≡ counts_of fs
-            → first ≡ first_of frame.now.pn fs → AreInOrder (frame.now ∷ fs)
+            → novelty ≡ novelty_of fs frame.now
+            → alike ≡ first_alike frame.now.pn frame.now.check fs → AreInOrder (frame.now ∷ fs)
             → result ≡ counts_of (frame.now ∷ fs) }
     {
-        let novelty = Novelty::after(first, frame);
         let lag = self.lag(frame.pn, novelty);
         Counts {
             frames: more(self.frames, true),
@@ -75,7 +76,7 @@ impl Counts {
             first: self.oldest(frame.packet),
             last: self.newest(frame.packet, novelty),
             repeated: more(self.repeated, novelty.is_repeated()),
-            longest: delay(first, frame).max(self.longest),
+            longest: delay(alike, frame).max(self.longest),
             reused: more(self.reused, novelty.is_reused()),
             fell: more(self.fell, lag != 0),
             window: lag.max(self.window),
@@ -138,14 +139,12 @@ fn is_clear(frame: &RightFrame, novelty: Novelty) -> bool
     novelty.is_fresh() && !frame.confidential
 }
 
-/// How many whole milliseconds after the first a frame repeats it.
-fn delay(first: Option<First>, frame: &RightFrame) -> u64
-    ensures { result ≡ delay first frame.now }
+/// How many whole milliseconds after the first one that it is alike a frame comes.
+fn delay(alike: Option<First>, frame: &RightFrame) -> u64
+    ensures { result ≡ delay alike frame.now }
 {
-    match first {
-        Some(first) if first.has_check_of(frame) => {
-            frame.time.saturating_sub(first.time) / NANOSECONDS_OF_A_MILLISECOND
-        }
-        _ => 0,
+    match alike {
+        Some(alike) => frame.time.saturating_sub(alike.time) / NANOSECONDS_OF_A_MILLISECOND,
+        None => 0,
     }
 }

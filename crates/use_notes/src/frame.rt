@@ -24,7 +24,7 @@ pub struct RightFrame {
     pub confidential: bool,
 }
 
-/// What is kept of the first frame with a packet number.
+/// What is kept of the first frame with a packet number, or with a number and a check value.
 #[derive(Clone, Copy)]
 pub struct First {
     pub packet: u32,

@@ -4,21 +4,21 @@ ghost use Rattle.std.specs.Prelude.{◌≡◌};
 ghost use Rattle.use_notes.specs.Frames.{novelty_after, is_new, is_repeated, is_reused, is_fresh};
 ghost use Rattle.use_notes.specs.Once.{reuse_by};
 
-use crate::frame::{First, RightFrame};
+use crate::frame::First;
 
 /// What a right frame is behind the right ones before it of its key and sender.
 #[derive(Clone, Copy, Debug, PartialEq, Eq)]
 pub enum Novelty {
     /// None of them has its packet number.
     New,
-    /// The first one with its packet number has its check value too.
+    /// One of them has its packet number and its check value.
     Repeated {
-        /// The packet of that one.
+        /// The packet of the first such one.
         first: u32,
     },
-    /// The first one with its packet number has another check value.
+    /// Each one of them with its packet number has another check value.
     Reused {
-        /// The packet of that one.
+        /// The packet of the first one with its number.
         first: u32,
     },
 }
@@ -52,17 +52,18 @@ impl Novelty {
         matches!(self, Novelty::Reused { .. })
     }
 
-    /// What a frame is behind the first one with its packet number, if there is one.
-    pub(crate) fn after(first: Option<First>, frame: &RightFrame) -> Novelty
-        ensures { result ≡ novelty_after first frame.now }
+    /// What a frame is behind the first one with its packet number, and the first one that has its check
+    /// value, too, if there are such.
+    pub(crate) fn after(first: Option<First>, alike: Option<First>) -> Novelty
+        ensures { result ≡ novelty_after first alike }
     {
-        match first {
-            None => Novelty::New,
-            Some(first) if first.has_check_of(frame) => Novelty::Repeated {
+        match (first, alike) {
+            (None, _) => Novelty::New,
+            (Some(first), None) => Novelty::Reused {
                 first: first.packet,
             },
-            Some(first) => Novelty::Reused {
-                first: first.packet,
+            (Some(_), Some(alike)) => Novelty::Repeated {
+                first: alike.packet,
             },
         }
     }

@@ -1,9 +1,9 @@
 //! What is kept of the frames of one key and sender.
 
-ghost use Rattle.std.specs.Prelude.{◌≡◌, List, [], ◌∷◌, IfOk, OnErr};
+ghost use Rattle.std.specs.Prelude.{◌≡◌, List, [], ◌∷◌, IfOk, OnOk, OnErr};
 ghost use Rattle.use_notes.specs.declared.frame.RightFrame.{RightFrame};
-ghost use Rattle.use_notes.specs.Frames.{AreInOrder, novelty};
-ghost use Rattle.use_notes.specs.Standing.{Keeps};
+ghost use Rattle.use_notes.specs.Frames.{AreInOrder, novelty as novelty_of};
+ghost use Rattle.use_notes.specs.Standing.{Finds, Keeps, found_alike};
 
 use crate::counts::Counts;
 use crate::frame::{First, RightFrame};
@@ -12,10 +12,12 @@ use std::alloc::{AllocError, Global};
 use std::collections::BTreeMap;
 use std::marker::Model;
 
-/// By packet number the first frame with it, and what is told of all. Contracts see the entries.
+/// By packet number the first frame with it; by number and check value the first one of those that reuse
+/// a number; and what is told of all. Contracts see the entries.
 #[derive(Drop)]
 pub struct SenderNotes {
     firsts: BTreeMap<u32, First>,
+    reused: BTreeMap<(u32, [u8; 16]), First>,
     counts: Counts,
 }
 
@@ -24,7 +26,7 @@ impl Model for SenderNotes {
 
     ghost Value = { KeptOfUse };
 
-    ghost view = { λ s. record { firsts = s.firsts.entries; counts = s.counts } };
+    ghost view = { λ s. record { firsts = s.firsts.entries; reused = s.reused.entries; counts = s.counts } };
 }
 
 impl SenderNotes {
@@ -34,6 +36,7 @@ impl SenderNotes {
     {
         SenderNotes {
             firsts: BTreeMap::new(alloc),
+            reused: BTreeMap::new(alloc),
             counts: Counts::none(),
         }
     }
@@ -48,14 +51,46 @@ impl SenderNotes {
     /// A frame more. An error leaves all as it was.
     pub fn note(&mut self, frame: &RightFrame) -> Result<Novelty, AllocError>
         ensures noted { (fs : List RightFrame) → Keeps fs self.old → AreInOrder (frame.now ∷ fs)
-            → IfOk result (λ told. (told ≡ novelty fs frame.now) × Keeps (frame.now ∷ fs) self.new) }
+            → IfOk result (λ told. (told ≡ novelty_of fs frame.now) × Keeps (frame.now ∷ fs) self.new) }
         ensures kept { OnErr result (self.new ≡ self.old) }
     {
         let first = self.firsts.get(&frame.pn).copied();
-        if first.is_none() {
-            self.firsts.insert(frame.pn, First::of(frame))?;
+        let alike = self.alike(first, frame);
+        let novelty = Novelty::after(first, alike);
+        self.keep(frame, novelty)?;
+        self.counts = self.counts.with(frame, novelty, alike);
+        Ok(novelty)
+    }
+
+    /// The first frame with the packet number and the check value of this one, behind the first with its
+    /// number, if there are such.
+    fn alike(&self, first: Option<First>, frame: &RightFrame) -> Option<First>
+        ensures { result ≡ found_alike first self.now.reused frame.now.pn frame.now.check }
+    {
+        match first {
+            Some(first) if first.has_check_of(frame) => Some(first),
+            _ => self.reused.get(&(frame.pn, frame.check)).copied(),
         }
-        self.counts = self.counts.with(frame, first);
-        Ok(Novelty::after(first, frame))
+    }
+
+    /// A new frame is kept by its packet number, a reused one by that and its check value. An error leaves
+    /// all as it was.
+    fn keep(&mut self, frame: &RightFrame, novelty: Novelty) -> Result<(), AllocError>
+        ensures noted { (fs : List RightFrame) → Finds fs self.old → novelty ≡ novelty_of fs frame.now
+            → OnOk result (Finds (frame.now ∷ fs) self.new) }
+        ensures counts { self.new.counts ≡ self.old.counts }
+        ensures kept { OnErr result (self.new ≡ self.old) }
+    {
+        match novelty {
+            Novelty::New => {
+                self.firsts.insert(frame.pn, First::of(frame))?;
+            }
+            Novelty::Reused { .. } => {
+                self.reused
+                    .insert((frame.pn, frame.check), First::of(frame))?;
+            }
+            Novelty::Repeated { .. } => {}
+        }
+        Ok(())
     }
 }

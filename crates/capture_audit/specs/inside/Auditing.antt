@@ -17,6 +17,7 @@ use Rattle.capture_audit.specs.declared.auditor.Auditor.{Auditor}
 use Rattle.capture_audit.specs.declared.batch.Batch.{Batch}
 use Rattle.capture_audit.specs.declared.end.AuditEnd.{AuditEnd}
 use Rattle.capture_audit.specs.declared.end.AuditEnd.TheVariants as ends
+use Rattle.capture_audit.specs.declared.asks.Asks.{Asks}
 use Rattle.capture_audit.specs.Before.{IsUnwrapped, Unwrapped}
 use Rattle.capture_audit.specs.Reading.{AreFirst, EndsBehind, IsHeadFailed, IsHeadPast, IsHeadRefused, in_order}
 use Rattle.capture_audit.specs.Telling.{told_lines}
@@ -88,54 +89,54 @@ pub record CanRead (reader : PacketReader) (a : Auditor) (b : Batch) : Type 0 wh
 
 -- Where an audit stands that reads what a source told, if it told it: these packets were read, and all
 -- settled but for those that wait; and these octets were written.
-pub record IsAuditing (shows : Bool) (ring : Ring) (told held : Option (List ℕ)) (reader : PacketReader)
+pub record IsAuditing (asks : Asks) (ring : Ring) (told held : Option (List ℕ)) (reader : PacketReader)
     (left then : Option (List ℕ)) (a : Auditor) (b : Batch) : Type 0 where
   pub before : List Unwrapped
   pub waiting : List Seen
   pub written : List ℕ
   pub written_is : then ≡ after held written
-  pub stands : StandsAt shows ring before waiting written a b
+  pub stands : StandsAt asks ring before waiting written a b
   pub reading : (text : List ℕ) → told ≡ Some text → IsReading text reader left (in_order before ++ waiting)
 
 -- reading ended so behind these packets, which are settled, and of whose lines some were written
-pub record HasRead (shows : Bool) (ring : Ring) (told held : Option (List ℕ)) (ending : Ending)
+pub record HasRead (asks : Asks) (ring : Ring) (told held : Option (List ℕ)) (ending : Ending)
     (left then : Option (List ℕ)) (a : Auditor) (b : Batch) : Type 0 where
   pub packets : List Unwrapped
   pub written : List ℕ
   pub written_is : then ≡ after held written
   pub keeps : Keeps ring packets a
-  pub lines : written ++ b.text.items ≡ told_lines shows ring packets
+  pub lines : written ++ b.text.items ≡ told_lines asks ring packets
   pub ends : (text : List ℕ) → told ≡ Some text
       → AreFirst text packets × EndsBehind ending text left ring packets
 
 -- a part of the lines of packets that were read was written
-pub record IsPartTold (shows : Bool) (ring : Ring) (told held then : Option (List ℕ)) : Type 0 where
+pub record IsPartTold (asks : Asks) (ring : Ring) (told held then : Option (List ℕ)) : Type 0 where
   pub packets : List Unwrapped
   pub unwrapped : All (IsUnwrapped ring) packets
   pub first : (text : List ℕ) → told ≡ Some text → AreFirst text packets
   pub more : List ℕ
   pub rest : List ℕ
-  pub lines : more ++ rest ≡ told_lines shows ring packets
+  pub lines : more ++ rest ≡ told_lines asks ring packets
   pub written_is : then ≡ after held more
 
 -- what reading a packet did: it was taken, or reading ended
-abbrev pub ReadsOne : Bool → Ring → Option (List ℕ) → Option (List ℕ) → PacketReader
+abbrev pub ReadsOne : Asks → Ring → Option (List ℕ) → Option (List ℕ) → PacketReader
     → Option (List ℕ) → Option (List ℕ) → Auditor → Batch → Result (Option Ending) AuditEnd → Type 0
-ReadsOne shows ring told held reader left then a b (Ok None) =
-    IsAuditing shows ring told held reader left then a b
-ReadsOne shows ring told held reader left then a b (Ok (Some ending)) =
-    HasRead shows ring told held ending left then a b
-ReadsOne shows ring told held reader left then a b (Err ends.WriteFault) =
-    IsPartTold shows ring told held then
-ReadsOne shows ring told held reader left then a b (Err ends.Memory) =
-    IsPartTold shows ring told held then
-ReadsOne shows ring told held reader left then a b (Err _) = ⊥
+ReadsOne asks ring told held reader left then a b (Ok None) =
+    IsAuditing asks ring told held reader left then a b
+ReadsOne asks ring told held reader left then a b (Ok (Some ending)) =
+    HasRead asks ring told held ending left then a b
+ReadsOne asks ring told held reader left then a b (Err ends.WriteFault) =
+    IsPartTold asks ring told held then
+ReadsOne asks ring told held reader left then a b (Err ends.Memory) =
+    IsPartTold asks ring told held then
+ReadsOne asks ring told held reader left then a b (Err _) = ⊥
 
 -- what reading all packets did
-abbrev pub ReadsUp : Bool → Ring → Option (List ℕ) → Option (List ℕ) → Option (List ℕ)
+abbrev pub ReadsUp : Asks → Ring → Option (List ℕ) → Option (List ℕ) → Option (List ℕ)
     → Option (List ℕ) → Auditor → Batch → Result Ending AuditEnd → Type 0
-ReadsUp shows ring told held left then a b (Ok ending) =
-    HasRead shows ring told held ending left then a b
-ReadsUp shows ring told held left then a b (Err ends.WriteFault) = IsPartTold shows ring told held then
-ReadsUp shows ring told held left then a b (Err ends.Memory) = IsPartTold shows ring told held then
-ReadsUp shows ring told held left then a b (Err _) = ⊥
+ReadsUp asks ring told held left then a b (Ok ending) =
+    HasRead asks ring told held ending left then a b
+ReadsUp asks ring told held left then a b (Err ends.WriteFault) = IsPartTold asks ring told held then
+ReadsUp asks ring told held left then a b (Err ends.Memory) = IsPartTold asks ring told held then
+ReadsUp asks ring told held left then a b (Err _) = ⊥

@@ -22,6 +22,7 @@ use Rattle.capture_audit.specs.declared.batch.Batch.{Batch}
 use Rattle.capture_audit.specs.declared.batch.Waiting.{Waiting}
 use Rattle.capture_audit.specs.declared.end.AuditEnd.{AuditEnd}
 use Rattle.capture_audit.specs.declared.end.AuditEnd.TheVariants as ends
+use Rattle.capture_audit.specs.declared.asks.Asks.{Asks}
 use Rattle.capture_audit.specs.Before.{IsUnwrapped, Unwrapped, entries, number_behind, right_key}
 use Rattle.capture_audit.specs.Reading.{in_order}
 use Rattle.capture_audit.specs.Telling.{told_lines}
@@ -54,23 +55,23 @@ IsTriedAt told found packet place (kinds.Sec (secs.Protected tag check)) =
 IsTriedAt told found packet place _ = ⊤
 
 -- a packet of this number waits: it makes no key known, and its line was begun where lines are shown
-pub record IsWaiting (shows : Bool) (ring : Ring) (told : List Entry) (found : List (Option ℕ)) (n : ℕ)
+pub record IsWaiting (asks : Asks) (ring : Ring) (told : List Entry) (found : List (Option ℕ)) (n : ℕ)
     (packet : Seen) (w : Waiting) : Type 0 where
   pub head : w.head ≡ packet.head
   pub kind : w.kind ≡ packet_kind ring.groups packet
   pub quiet : distributes (packet_kind ring.groups packet) ≡ false
   pub line : w.line.items
-      ≡ begun_part shows n (begun_words (frame_of packet.octets) (packet_kind ring.groups packet))
+      ≡ begun_part asks.shows n (begun_words (frame_of packet.octets) (packet_kind ring.groups packet))
   pub tried : IsTriedAt told found packet w.trial (packet_kind ring.groups packet)
 
 -- packets wait, the first of which has this number
-abbrev pub AreWaiting : Bool → Ring → List Entry → List (Option ℕ) → ℕ → List Seen → List Waiting
+abbrev pub AreWaiting : Asks → Ring → List Entry → List (Option ℕ) → ℕ → List Seen → List Waiting
     → Type 0
-AreWaiting shows ring told found n [] [] = ⊤
-AreWaiting shows ring told found n (packet ∷ packets) (w ∷ ws) =
-    IsWaiting shows ring told found n packet w
-    × AreWaiting shows ring told found (suc n) packets ws
-AreWaiting shows ring told found n _ _ = ⊥
+AreWaiting asks ring told found n [] [] = ⊤
+AreWaiting asks ring told found n (packet ∷ packets) (w ∷ ws) =
+    IsWaiting asks ring told found n packet w
+    × AreWaiting asks ring told found (suc n) packets ws
+AreWaiting asks ring told found n _ _ = ⊥
 
 -- ---- a batch
 
@@ -85,13 +86,13 @@ answers told trials = map (answer (map secret_octets (keys told))) trials
 
 -- Where an audit stands: these packets are settled, the newest first, those wait behind them, the oldest
 -- first, and of the lines of the settled ones these octets were written.
-pub record StandsAt (shows : Bool) (ring : Ring) (before : List Unwrapped) (waiting : List Seen)
+pub record StandsAt (asks : Asks) (ring : Ring) (before : List Unwrapped) (waiting : List Seen)
     (written : List ℕ) (a : Auditor) (b : Batch) : Type 0 where
   pub keeps : Keeps ring before a
-  pub shows_are : b.shows ≡ shows
-  pub waits : AreWaiting shows ring (entries ring before) (answers (entries ring before) b.trials.items)
+  pub asks_are : b.asks ≡ asks
+  pub waits : AreWaiting asks ring (entries ring before) (answers (entries ring before) b.trials.items)
       (number_behind before) waiting b.waiting.items
-  pub lines : written ++ b.text.items ≡ told_lines shows ring before
+  pub lines : written ++ b.text.items ≡ told_lines asks ring before
 
 -- ---- settling those that wait
 
@@ -101,7 +102,7 @@ pub record HaveSameKeys (before now : List Entry) : Type 0 where
   pub right : (tag : Tag) (frame : List ℕ) → right_key now tag frame ≡ right_key before tag frame
 
 -- one more was settled, and its lines stand behind others
-pub record IsTold (shows : Bool) (ring : Ring) (before : List Unwrapped) (packet : Seen) (new : Auditor)
+pub record IsTold (asks : Asks) (ring : Ring) (before : List Unwrapped) (packet : Seen) (new : Auditor)
     (text text_then : List ℕ) : Type 0 where
   pub now : List Unwrapped
   pub all : in_order now ≡ in_order before ++ packet ∷ []
@@ -109,52 +110,52 @@ pub record IsTold (shows : Bool) (ring : Ring) (before : List Unwrapped) (packet
   pub quiet : distributes (packet_kind ring.groups packet) ≡ false
       → HaveSameKeys (entries ring before) (entries ring now)
   pub number : number_behind now ≡ suc (number_behind before)
-  pub lines : (written : List ℕ) → written ++ text ≡ told_lines shows ring before
-      → written ++ text_then ≡ told_lines shows ring now
+  pub lines : (written : List ℕ) → written ++ text ≡ told_lines asks ring before
+      → written ++ text_then ≡ told_lines asks ring now
 
-abbrev pub Tells : Bool → Ring → List Unwrapped → Seen → Auditor → Auditor → List ℕ → List ℕ
+abbrev pub Tells : Asks → Ring → List Unwrapped → Seen → Auditor → Auditor → List ℕ → List ℕ
     → Result (Unit {0}) AuditEnd → Type 0
-Tells shows ring before packet old new text text_then (Ok done) =
-    IsTold shows ring before packet new text text_then
-Tells shows ring before packet old new text text_then (Err ends.KeyLimit) =
+Tells asks ring before packet old new text text_then (Ok done) =
+    IsTold asks ring before packet new text text_then
+Tells asks ring before packet old new text text_then (Err ends.KeyLimit) =
     IsFull ring before packet old new × (text_then ≡ text)
     × (distributes (packet_kind ring.groups packet) ≡ true)
-Tells shows ring before packet old new text text_then (Err ends.Memory) = ⊤
-Tells shows ring before packet old new text text_then (Err _) = ⊥
+Tells asks ring before packet old new text text_then (Err ends.Memory) = ⊤
+Tells asks ring before packet old new text text_then (Err _) = ⊥
 
 -- so many of these were settled
-pub record AreToldUpTo (shows : Bool) (ring : Ring) (before : List Unwrapped) (packets : List Seen)
+pub record AreToldUpTo (asks : Asks) (ring : Ring) (before : List Unwrapped) (packets : List Seen)
     (found : List (Option ℕ)) (ws : List Waiting) (count : ℕ) (a : Auditor) (text text_then : List ℕ)
     : Type 0 where
   pub now : List Unwrapped
   pub rest : List Seen
   pub all : in_order now ++ rest ≡ in_order before ++ packets
-  pub left : AreWaiting shows ring (entries ring before) found (number_behind now) rest (drop count ws)
+  pub left : AreWaiting asks ring (entries ring before) found (number_behind now) rest (drop count ws)
   pub keeps : Keeps ring now a
   pub same : HaveSameKeys (entries ring before) (entries ring now)
-  pub lines : (written : List ℕ) → written ++ text ≡ told_lines shows ring before
-      → written ++ text_then ≡ told_lines shows ring now
+  pub lines : (written : List ℕ) → written ++ text ≡ told_lines asks ring before
+      → written ++ text_then ≡ told_lines asks ring now
 
 -- all of these were settled
-pub record AreTold (shows : Bool) (ring : Ring) (before : List Unwrapped) (packets : List Seen)
+pub record AreTold (asks : Asks) (ring : Ring) (before : List Unwrapped) (packets : List Seen)
     (new : Auditor) (text text_then : List ℕ) : Type 0 where
   pub now : List Unwrapped
   pub all : in_order now ≡ in_order before ++ packets
   pub keeps : Keeps ring now new
-  pub lines : (written : List ℕ) → written ++ text ≡ told_lines shows ring before
-      → written ++ text_then ≡ told_lines shows ring now
+  pub lines : (written : List ℕ) → written ++ text ≡ told_lines asks ring before
+      → written ++ text_then ≡ told_lines asks ring now
 
-abbrev pub TellsAll : Bool → Ring → List Unwrapped → List Seen → Auditor → List ℕ → List ℕ
+abbrev pub TellsAll : Asks → Ring → List Unwrapped → List Seen → Auditor → List ℕ → List ℕ
     → Result (Unit {0}) AuditEnd → Type 0
-TellsAll shows ring before packets new text text_then (Ok done) =
-    AreTold shows ring before packets new text text_then
-TellsAll shows ring before packets new text text_then (Err ends.Memory) = ⊤
-TellsAll shows ring before packets new text text_then (Err _) = ⊥
+TellsAll asks ring before packets new text text_then (Ok done) =
+    AreTold asks ring before packets new text text_then
+TellsAll asks ring before packets new text text_then (Err ends.Memory) = ⊤
+TellsAll asks ring before packets new text text_then (Err _) = ⊥
 
 -- ---- what is written
 
 -- a part of the lines of packets that end so was written, behind what was
-pub record IsPartWritten (shows : Bool) (ring : Ring) (before : List Unwrapped) (packets : List Seen)
+pub record IsPartWritten (asks : Asks) (ring : Ring) (before : List Unwrapped) (packets : List Seen)
     (written : List ℕ) (held then : Option (List ℕ)) : Type 0 where
   pub now : List Unwrapped
   pub later : List Seen
@@ -162,31 +163,31 @@ pub record IsPartWritten (shows : Bool) (ring : Ring) (before : List Unwrapped) 
   pub unwrapped : All (IsUnwrapped ring) now
   pub more : List ℕ
   pub rest : List ℕ
-  pub lines : (written ++ more) ++ rest ≡ told_lines shows ring now
+  pub lines : (written ++ more) ++ rest ≡ told_lines asks ring now
   pub written_is : then ≡ after held more
 
 -- the audit is further: of these packets some are settled, and the others wait
-pub record IsFurther (shows : Bool) (ring : Ring) (before : List Unwrapped) (packets : List Seen)
+pub record IsFurther (asks : Asks) (ring : Ring) (before : List Unwrapped) (packets : List Seen)
     (written : List ℕ) (held then : Option (List ℕ)) (a : Auditor) (b : Batch) : Type 0 where
   pub now : List Unwrapped
   pub waiting : List Seen
   pub all : in_order now ++ waiting ≡ in_order before ++ packets
   pub more : List ℕ
   pub written_is : then ≡ after held more
-  pub stands : StandsAt shows ring now waiting (written ++ more) a b
+  pub stands : StandsAt asks ring now waiting (written ++ more) a b
 
 -- all of these are settled, and their lines written
-pub record IsSettledUp (shows : Bool) (ring : Ring) (before : List Unwrapped) (packets : List Seen)
+pub record IsSettledUp (asks : Asks) (ring : Ring) (before : List Unwrapped) (packets : List Seen)
     (written : List ℕ) (held then : Option (List ℕ)) (a : Auditor) (b : Batch) : Type 0 where
   pub now : List Unwrapped
   pub all : in_order now ≡ in_order before ++ packets
   pub more : List ℕ
   pub written_is : then ≡ after held more
-  pub stands : StandsAt shows ring now [] (written ++ more) a b
+  pub stands : StandsAt asks ring now [] (written ++ more) a b
   pub empty : b.text.items ≡ []
 
 -- the last of these makes a key too many, and those before it are settled, and their lines written
-pub record IsAtLimit (shows : Bool) (ring : Ring) (before : List Unwrapped) (packets : List Seen)
+pub record IsAtLimit (asks : Asks) (ring : Ring) (before : List Unwrapped) (packets : List Seen)
     (packet : Seen) (written : List ℕ) (held then : Option (List ℕ)) (a : Auditor) (b : Batch) : Type 0
   where
     pub now : List Unwrapped
@@ -194,19 +195,19 @@ pub record IsAtLimit (shows : Bool) (ring : Ring) (before : List Unwrapped) (pac
     pub more : List ℕ
     pub written_is : then ≡ after held more
     pub keeps : Keeps ring now a
-    pub lines : (written ++ more) ++ b.text.items ≡ told_lines shows ring now
+    pub lines : (written ++ more) ++ b.text.items ≡ told_lines asks ring now
     pub full : IsFull ring now packet a a
 
 -- what settling all that wait did
-abbrev pub SettlesUp : Bool → Ring → List Unwrapped → List Seen → List ℕ → Option (List ℕ)
+abbrev pub SettlesUp : Asks → Ring → List Unwrapped → List Seen → List ℕ → Option (List ℕ)
     → Option (List ℕ) → Auditor → Batch → Result (Unit {0}) AuditEnd → Type 0
-SettlesUp shows ring before packets written held then a b (Ok done) =
-    IsSettledUp shows ring before packets written held then a b
-SettlesUp shows ring before packets written held then a b (Err ends.WriteFault) =
-    IsPartWritten shows ring before packets written held then
-SettlesUp shows ring before packets written held then a b (Err ends.Memory) =
-    IsPartWritten shows ring before packets written held then
-SettlesUp shows ring before packets written held then a b (Err _) = ⊥
+SettlesUp asks ring before packets written held then a b (Ok done) =
+    IsSettledUp asks ring before packets written held then a b
+SettlesUp asks ring before packets written held then a b (Err ends.WriteFault) =
+    IsPartWritten asks ring before packets written held then
+SettlesUp asks ring before packets written held then a b (Err ends.Memory) =
+    IsPartWritten asks ring before packets written held then
+SettlesUp asks ring before packets written held then a b (Err _) = ⊥
 
 -- a packet was judged so: what is told beside its octets, its kind, and its frame
 pub record IsJudged (ring : Ring) (packet : Seen) (head : PacketHead) (kind : Kind) (frame : List ℕ)
@@ -220,30 +221,30 @@ abbrev pub IsLonger : {X : Type 0} → List X → List X → Type 0
 IsLonger {X} old new = (more : List X) × (new ≡ old ++ more)
 
 -- what settling a packet did that may make a key known, where none waits
-abbrev pub SettlesAlone : Bool → Ring → List Unwrapped → Seen → List ℕ → Option (List ℕ)
+abbrev pub SettlesAlone : Asks → Ring → List Unwrapped → Seen → List ℕ → Option (List ℕ)
     → Option (List ℕ) → Auditor → Batch → Result (Unit {0}) AuditEnd → Type 0
-SettlesAlone shows ring before packet written held then a b (Ok done) =
-    IsSettledUp shows ring before (packet ∷ []) written held then a b
-SettlesAlone shows ring before packet written held then a b (Err ends.KeyLimit) =
-    IsAtLimit shows ring before [] packet written held then a b
-SettlesAlone shows ring before packet written held then a b (Err ends.WriteFault) =
-    IsPartWritten shows ring before (packet ∷ []) written held then
-SettlesAlone shows ring before packet written held then a b (Err ends.Memory) =
-    IsPartWritten shows ring before (packet ∷ []) written held then
-SettlesAlone shows ring before packet written held then a b (Err _) = ⊥
+SettlesAlone asks ring before packet written held then a b (Ok done) =
+    IsSettledUp asks ring before (packet ∷ []) written held then a b
+SettlesAlone asks ring before packet written held then a b (Err ends.KeyLimit) =
+    IsAtLimit asks ring before [] packet written held then a b
+SettlesAlone asks ring before packet written held then a b (Err ends.WriteFault) =
+    IsPartWritten asks ring before (packet ∷ []) written held then
+SettlesAlone asks ring before packet written held then a b (Err ends.Memory) =
+    IsPartWritten asks ring before (packet ∷ []) written held then
+SettlesAlone asks ring before packet written held then a b (Err _) = ⊥
 
 -- what taking a packet did, behind those that wait
-abbrev pub Takes : Bool → Ring → List Unwrapped → List Seen → Seen → List ℕ → Option (List ℕ)
+abbrev pub Takes : Asks → Ring → List Unwrapped → List Seen → Seen → List ℕ → Option (List ℕ)
     → Option (List ℕ) → Auditor → Batch → Result (Unit {0}) AuditEnd → Type 0
-Takes shows ring before waiting packet written held then a b (Ok done) =
-    IsFurther shows ring before (waiting ++ packet ∷ []) written held then a b
-Takes shows ring before waiting packet written held then a b (Err ends.KeyLimit) =
-    IsAtLimit shows ring before waiting packet written held then a b
-Takes shows ring before waiting packet written held then a b (Err ends.WriteFault) =
-    IsPartWritten shows ring before (waiting ++ packet ∷ []) written held then
-Takes shows ring before waiting packet written held then a b (Err ends.Memory) =
-    IsPartWritten shows ring before (waiting ++ packet ∷ []) written held then
-Takes shows ring before waiting packet written held then a b (Err _) = ⊥
+Takes asks ring before waiting packet written held then a b (Ok done) =
+    IsFurther asks ring before (waiting ++ packet ∷ []) written held then a b
+Takes asks ring before waiting packet written held then a b (Err ends.KeyLimit) =
+    IsAtLimit asks ring before waiting packet written held then a b
+Takes asks ring before waiting packet written held then a b (Err ends.WriteFault) =
+    IsPartWritten asks ring before (waiting ++ packet ∷ []) written held then
+Takes asks ring before waiting packet written held then a b (Err ends.Memory) =
+    IsPartWritten asks ring before (waiting ++ packet ∷ []) written held then
+Takes asks ring before waiting packet written held then a b (Err _) = ⊥
 
 -- what writing text did: all of it, or a part
 abbrev pub Writes : List ℕ → Option (List ℕ) → Option (List ℕ) → Result (Unit {0}) AuditEnd → Type 0

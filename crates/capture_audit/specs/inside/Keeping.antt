@@ -1,5 +1,5 @@
 -- What is kept of packets, and how it changes.
-use Rattle.std.specs.Prelude.{⊤, ◌≡◌, ℕ, ◌^◌, ◌<◌, ◌≤◌, List, [], ◌∷◌, ◌++◌, length, drop, map, unwrap_or, All, Option, None, option_map, Result, Ok, Err}
+use Rattle.std.specs.Prelude.{⊤, ◌≡◌, ℕ, ◌^◌, ◌<◌, ◌≤◌, Bool, List, [], ◌∷◌, ◌++◌, length, drop, map, unwrap_or, All, Option, None, option_map, Result, Ok, Err}
 use Rattle.aes_block.specs.declared.secret.Secret.{Secret}
 use Rattle.audit_facts.specs.Standing.{StandsFor as FactsStandFor}
 use Rattle.audit_report.specs.Lines.{set_lines}
@@ -232,27 +232,27 @@ Settles ring before packet old new (Err _) = ⊥
 abbrev pub numbered_among : List Secret → List HandKey → List (ℕ × HandKey)
 numbered_among saks hand = map (λ key. (unwrap_or (number_in saks key.sak) 0, key)) hand
 
--- so many were set, and their lines stand behind others
-pub record AreSetUpTo (hand : List HandKey) (count : ℕ) (known : KeptKeys) (text text_then : List ℕ) : Type 0
+-- so many were set, and their lines, with the keys themselves or without, stand behind others
+pub record AreSetUpTo (hand : List HandKey) (shown : Bool) (count : ℕ) (known : KeptKeys) (text text_then : List ℕ) : Type 0
   where
     pub told : List Entry
     pub done : List (ℕ × HandKey)
     pub rest_is : set_behind told (drop count hand) ≡ set_behind [] hand
     pub stands : KnownStandsFor told known
     pub few : length (keys told) ≤ most_keys
-    pub lines : text_then ≡ text ++ set_lines done
+    pub lines : text_then ≡ text ++ set_lines shown done
     pub numbers : done ++ numbered_among (keys (set_behind [] hand)) (drop count hand)
         ≡ numbered_among (keys (set_behind [] hand)) hand
 
 -- what setting keys did
-abbrev pub SetsKeys : List HandKey → KeptKeys → List ℕ → List ℕ → Result (Unit {0}) AuditEnd → Type 0
-SetsKeys hand new text text_then (Ok done) =
+abbrev pub SetsKeys : List HandKey → Bool → KeptKeys → List ℕ → List ℕ → Result (Unit {0}) AuditEnd → Type 0
+SetsKeys hand shown new text text_then (Ok done) =
     KnownStandsFor (set_behind [] hand) new
     × (length (keys (set_behind [] hand)) ≤ most_keys)
-    × (text_then ≡ text ++ set_lines (numbered_among (keys (set_behind [] hand)) hand))
-SetsKeys hand new text text_then (Err ends.KeyLimit) = AreTooMany (set_behind [] hand)
-SetsKeys hand new text text_then (Err ends.Memory) = ⊤
-SetsKeys hand new text text_then (Err _) = ⊥
+    × (text_then ≡ text ++ set_lines shown (numbered_among (keys (set_behind [] hand)) hand))
+SetsKeys hand shown new text text_then (Err ends.KeyLimit) = AreTooMany (set_behind [] hand)
+SetsKeys hand shown new text text_then (Err ends.Memory) = ⊤
+SetsKeys hand shown new text text_then (Err _) = ⊥
 
 -- why there is no auditor behind a key text
 abbrev pub EndsOf : {X : Type 0} → Ring → Result X AuditEnd → Type 0

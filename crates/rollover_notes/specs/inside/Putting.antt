@@ -8,7 +8,8 @@ use Rattle.lan_base.specs.declared.address.Sci.{Sci}
 use Rattle.member_notes.specs.Standing.{member_cmp}
 use Rattle.rollover_notes.specs.Speaking.{Member}
 use Rattle.rollover_notes.specs.Standing.{MemberKey, has, member_key_cmp, number_sci_cmp}
-use Rattle.rollover_notes.specs.Counted.{more}
+use Rattle.rollover_notes.specs.declared.late_frames.LateFrames.{LateFrames}
+use Rattle.rollover_notes.specs.Counted.{none_late, with_late}
 
 -- a value is found under a key, and under others what was
 abbrev pub Puts : {K X : Type 0} → (K → K → Ordering) → K → X → List (K × X) → List (K × X) → Type 0
@@ -32,10 +33,15 @@ PutsShown shows m value old new =
     ≡ option_or (lookup (is_at (member_key_cmp q)) old)
     (if is_at (member_cmp m) q.0 && shows q.1 then Some value else None)
 
--- a count is one more, where it is to be
-abbrev pub CountsMore : Bool → ℕ × Sci → List ((ℕ × Sci) × ℕ) → List ((ℕ × Sci) × ℕ) → Type 0
-CountsMore counted at old new =
-    (q : ℕ × Sci) → unwrap_or (lookup (is_at (number_sci_cmp q)) new) 0
-    ≡ (if is_at (number_sci_cmp at) q && counted
-    then more (unwrap_or (lookup (is_at (number_sci_cmp q)) old) 0)
-    else unwrap_or (lookup (is_at (number_sci_cmp q)) old) 0)
+-- late frames under a key, of a sender
+abbrev pub Lates : Type 0
+Lates = List ((ℕ × Sci) × LateFrames)
+
+abbrev pub lates_at : Lates → ℕ × Sci → LateFrames
+lates_at lates at = unwrap_or (lookup (is_at (number_sci_cmp at)) lates) none_late
+
+-- one of a packet is counted, where it is to be
+abbrev pub CountsMore : Bool → ℕ → ℕ × Sci → Lates → Lates → Type 0
+CountsMore counted packet at old new =
+    (q : ℕ × Sci) → lates_at new q
+    ≡ (if is_at (number_sci_cmp at) q && counted then with_late packet (lates_at old q) else lates_at old q)

@@ -7,25 +7,27 @@ use Rattle.capture_audit.specs.declared.asks.Asks.{Asks}
 use Rattle.capture_audit.specs.declared.end.AuditEnd.{AuditEnd}
 use Rattle.capture_audit.specs.declared.end.AuditEnd.TheVariants as ends
 use Rattle.capture_audit.specs.Before.{Unwrapped}
-use Rattle.capture_audit.specs.Ends.{EndsAudit, IsBroken, end_for}
+use Rattle.capture_audit.specs.Ends.{EndsAudit, IsBreach, IsBroken, end_for}
 use Rattle.capture_audit.specs.Reading.{IsRead}
 use Rattle.capture_audit.specs.Telling.{all_told}
 use Rattle.capture_audit.specs.Views.{Views, end_seen}
 use Rattle.audit_report.specs.Tallies.{tally_of}
 use Rattle.audit_report.specs.Verdicts.{doubt}
+use Rattle.audit_report.specs.declared.blame.Breach.{Breach}
 use Rattle.audit_report.specs.declared.ending.Ending.TheVariants.{Whole}
 use Rattle.key_ring.specs.Rings.{Ring}
 use Rattle.rollover_program.specs.Outside.{Outside}
 use Rattle.rollover_program.specs.commands.Draw.{Shows}
 use Rattle.rollover_program.specs.declared.status.Status.{Status}
-use Rattle.rollover_program.specs.declared.status.Status.TheVariants.{Done, KeyLine, CaptureRefuted, CaptureDoubted, Packets, CaptureInput, Keys, ReadFault, WriteFault, Memory}
+use Rattle.rollover_program.specs.declared.status.Status.TheVariants.{Done, KeyLine, CaptureRefuted, CaptureDoubted, CaptureNotJudged, Packets, CaptureInput, Keys, ReadFault, WriteFault, Memory}
 
 -- the status of how an audit ended
 abbrev pub status_of_audit : Result (Unit {0}) AuditEnd → Status
 status_of_audit (Ok done) = Done
 status_of_audit (Err (ends.KeyLine line why)) = KeyLine line why
-status_of_audit (Err ends.Refuted) = CaptureRefuted
+status_of_audit (Err (ends.Refuted breach)) = CaptureRefuted breach
 status_of_audit (Err (ends.Doubted wrong undecided)) = CaptureDoubted wrong undecided
+status_of_audit (Err ends.NotJudged) = CaptureNotJudged
 status_of_audit (Err (ends.Refused at why)) = Packets at why
 status_of_audit (Err ends.InputLimit) = CaptureInput
 status_of_audit (Err ends.KeyLimit) = Keys
@@ -63,12 +65,17 @@ EndsAsView asks text left failed old new status = (seen : Result AuditView Audit
 
 -- ---- of whole captures
 
--- All these packets were judged: where a pair of them breaks what is judged the capture is refuted, and
--- where none does it is doubted if that is asked for and the counts of its frames say so, and else all is
--- done.
+-- the capture is refuted by what breaks of all its packets
+abbrev pub IsRefutedBy : Ring → List Unwrapped → Status → Type 0
+IsRefutedBy ring packets status =
+    (breach : Breach) × IsBreach ring packets ⊥ breach × (status ≡ CaptureRefuted breach)
+
+-- All these packets were judged: where a pair of them breaks what is judged the capture is refuted by the
+-- least, and where none does it is doubted if that is asked for and the counts of its frames say so, and else
+-- all is done.
 abbrev pub EndsJudged : Asks → Ring → List Unwrapped → Status → Type 0
 EndsJudged asks ring packets status =
-    ((i j : ℕ) → IsBroken ring packets i j → status ≡ CaptureRefuted)
+    ((i j : ℕ) → IsBroken ring packets i j → IsRefutedBy ring packets status)
     × (((i j : ℕ) → IsBroken ring packets i j → ⊥)
     → status ≡ status_of_audit (end_for (doubt asks.strict (tally_of (all_told ring packets)))))
 

@@ -73,10 +73,11 @@ fn status_of_audit(answer: Result<(), AuditEnd>) -> Status
     match answer {
         Ok(()) => Status::Done,
         Err(AuditEnd::KeyLine { line, why }) => Status::KeyLine { line, why },
-        Err(AuditEnd::Refuted) => Status::CaptureRefuted,
+        Err(AuditEnd::Refuted(breach)) => Status::CaptureRefuted(breach),
         Err(AuditEnd::Doubted { wrong, undecided }) => {
             Status::CaptureDoubted { wrong, undecided }
         }
+        Err(AuditEnd::NotJudged) => Status::CaptureNotJudged,
         Err(AuditEnd::Refused { at, why }) => Status::Packets { at, why },
         Err(AuditEnd::InputLimit) => Status::CaptureInput,
         Err(AuditEnd::KeyLimit) => Status::Keys,

@@ -3,6 +3,7 @@
 ghost use Rattle.rollover_program.specs.declared.words.Order.TheVariants as orders;
 ghost use Rattle.rollover_program.specs.Outside.{outside};
 ghost use Rattle.rollover_program.specs.Carried.{IsCarriedOut};
+ghost use Rattle.rollover_program.specs.Turned.{ShowsInTurn};
 
 use crate::laws::law_tidy_runs_are_promised;
 use crate::status::{Status, status_of_replay};
@@ -20,7 +21,9 @@ pub fn run<T: Threads + Sync, S: Source, K: Sink>(
     sink: &mut K,
     gate: &AnyGate,
 ) -> Status
-    ensures { IsCarriedOut (orders.Run summary)
+    ensures carried { IsCarriedOut (orders.Run summary)
+        (outside S.Source K.Sink source.old source.new sink.old sink.new) result }
+    ensures turned { ShowsInTurn S.Gave (orders.Run summary) source.old source.new
         (outside S.Source K.Sink source.old source.new sink.old sink.new) result }
 {
     law_tidy_runs_are_promised();

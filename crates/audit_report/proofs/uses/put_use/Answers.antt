@@ -8,5 +8,5 @@ pub returns : goal.returns
 returns c =
     let u = c.args.each.now in
     on_ok_weaker c.end_use.result
-    (λ last. in_two _ _ _ (codes "use") (use_words u) (order_words u.counts c.args.late) c.in_ok-begin_use.ensures last)
+    (λ last. in_two _ _ _ (codes "use") (use_words u.noted) (order_words u) c.in_ok-begin_use.ensures last)
     c.end_use.ensures

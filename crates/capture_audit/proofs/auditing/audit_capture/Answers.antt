@@ -11,7 +11,7 @@ returns-in_err-reader-clause-audited g c = λ text ring is stands.
 
 pub returns-clause-audited : goal.returns-clause-audited
 returns-clause-audited g c = λ text ring is stands.
-    let shows = c.args.asks.shows in
+    let asks = c.args.asks in
     let left = g.S.Source.left c.args.source.now in
     let left_then = g.S.Source.left c.open.new.source in
     let held = g.K.Sink.held c.args.sink.now in
@@ -20,14 +20,15 @@ returns-clause-audited g c = λ text ring is stands.
     (g.K.Sink.held c.audit_packets.new.sink) _ _ c.audit_packets.result (rose-earlier _ _ _ c.open.ensures.read_fault.counts)
     (c.audit_packets.ensures.audited text ring held
     (head-read text left left_then ring c.args.supply c.in_ok-reader.reader is opens)
-    (begins shows ring (Some text) c.in_ok-reader.reader left_then held c.args.auditor.now c.args.batch.now stands
+    (begins asks ring (Some text) c.in_ok-reader.reader left_then held c.args.auditor.now c.args.batch.now stands
     (text-read text c.in_ok-reader.reader left_then opens.1)))
 
 pub returns-clause-read_fault : goal.returns-clause-read_fault
-returns-clause-read_fault g c = λ shows ring stands is.
+returns-clause-read_fault g c = λ ring stands is.
+    let asks = c.args.asks in
     let left_then = g.S.Source.left c.open.new.source in
     let held = g.K.Sink.held c.args.sink.now in
-    let rose = c.audit_packets.ensures.read_fault shows ring held
-    (begins shows ring None c.in_ok-reader.reader left_then held c.args.auditor.now c.args.batch.now stands
+    let rose = c.audit_packets.ensures.read_fault ring held
+    (begins asks ring None c.in_ok-reader.reader left_then held c.args.auditor.now c.args.batch.now stands
     (none-told c.in_ok-reader.reader left_then)) is in
     rose-earlier _ _ _ c.open.ensures.read_fault.counts rose

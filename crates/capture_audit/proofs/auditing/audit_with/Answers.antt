@@ -32,13 +32,13 @@ pub returns-clause-audited : goal.returns-clause-audited
 returns-clause-audited g c = λ text is.
     c.audit_capture.ensures.audited text c.args.ring is
     (c.new-batch.ensures.stands c.args.ring c.in_ok-auditor.auditor (c.in_ok-auditor.ensures.keeps)
-    (set-told c.args.asks.shows c.args.ring c.of.new.into.items c.new-text.result.items c.new-text.ensures.items c.in_ok-auditor.ensures.lines))
+    (set-told c.args.asks c.args.ring c.of.new.into.items c.new-text.result.items c.new-text.ensures.items c.in_ok-auditor.ensures.lines))
 
 pub returns-clause-read_fault : goal.returns-clause-read_fault
 returns-clause-read_fault g c = record {
-  rose = c.audit_capture.ensures.read_fault c.args.asks.shows c.args.ring
+  rose = c.audit_capture.ensures.read_fault c.args.ring
       (c.new-batch.ensures.stands c.args.ring c.in_ok-auditor.auditor (c.in_ok-auditor.ensures.keeps)
-      (set-told c.args.asks.shows c.args.ring c.of.new.into.items c.new-text.result.items c.new-text.ensures.items c.in_ok-auditor.ensures.lines));
+      (set-told c.args.asks c.args.ring c.of.new.into.items c.new-text.result.items c.new-text.ensures.items c.in_ok-auditor.ensures.lines));
   counts = c.audit_capture.ensures.reads;
 }
 

@@ -8,7 +8,7 @@ use Rattle.capture_audit.proofs.Setting.{hand-drop, no_key, sets-begin, sets-end
 use Rattle.capture_audit.proofs.auditor.set_keys.Goals as goal
 
 pub loop-key-init : goal.loop-key-init
-loop-key-init c = (refl, λ stands. sets-begin c.args.hand.now c.args.known.now c.args.into.now.items stands)
+loop-key-init c = (refl, λ stands. sets-begin c.args.hand.now c.args.keys c.args.known.now c.args.into.now.items stands)
 
 pub loop-key-preserved : goal.loop-key-preserved
 loop-key-preserved c =
@@ -21,7 +21,7 @@ loop-key-preserved c =
       set.last ∙ was.0,
       λ stands.
           let up = was.1 stands in
-          sets-more hand i key c.in_ok-number.number _ _ _ _ _ (hand-drop hand i lt) up
+          sets-more hand c.args.keys i key c.in_ok-number.number _ _ _ _ _ (hand-drop hand i lt) up
           (set.set up.told up.stands) (set.number up.told up.stands)
           (not-full _ _ (length (keys (Set key.sender key.an key.sak ∷ up.told))) (set.full up.told up.stands))
           c.in_ok-put_hand_line.ensures,
@@ -36,10 +36,10 @@ returns-in_err-number-clause-sets c = λ stands.
     let lt : c.loop-key.key-index < length c.args.hand.now = omega arith in
     let up = c.loop-key.invariant.1 stands in
     let full = c.in_err-number.ensures.full up.told up.stands in
-    rw (p.1, p.2) (sets-stop hand i key c.loop-key.known c.set.new.self c.args.into.now.items c.loop-key.into.items c.loop-key.into.items
+    rw (p.1, p.2) (sets-stop hand c.args.keys i key c.loop-key.known c.set.new.self c.args.into.now.items c.loop-key.into.items c.loop-key.into.items
     c.in_err-number.field-0.0 (hand-drop hand i lt) up
     (λ is. full.0 (ap (λ (e : KeyError). Err e) is)))
 
 pub returns-clause-sets : goal.returns-clause-sets
 returns-clause-sets c = λ stands.
-    sets-end c.args.hand.now c.loop-key.key-index _ _ _ (drop_all c.loop-key.key-index c.args.hand.now c.loop-key-test.false) (c.loop-key.invariant.1 stands)
+    sets-end c.args.hand.now c.args.keys c.loop-key.key-index _ _ _ (drop_all c.loop-key.key-index c.args.hand.now c.loop-key-test.false) (c.loop-key.invariant.1 stands)

@@ -13,8 +13,8 @@ returns-clause-tells c = λ ring before packet keeps found line.
     let settled = c.in_ok-finding.ensures.settles ring before packet keeps found in
     let number = c.in_ok-finding.ensures.count ∙ ap (λ (t : Tally). t.all + 1) keeps.tally
     ∙ ap (λ n. n + 1) (told-length ring before) in
-    let begun = line ∙ ap (λ n. begun_part c.args.shows n words) (sym number) in
+    let begun = line ∙ ap (λ n. begun_part c.args.asks.shows n words) (sym number) in
     let value = c.deref.ensures.value in
     let puts = c.in_ok-put_finding.ensures words (cc (begun, value)) in
-    told-more c.args.shows ring before packet c.in_ok-finding.finding _ _ _ settled
-    (puts ∙ ap (λ n. c.args.text.now.items ++ finding_lines c.args.shows n words c.in_ok-finding.finding) number)
+    told-more c.args.asks ring before packet c.in_ok-finding.finding _ _ _ settled
+    (puts ∙ ap (λ n. c.args.text.now.items ++ finding_lines c.args.asks.shows c.args.asks.keys n words c.in_ok-finding.finding) number)

@@ -11,7 +11,7 @@ returns-in_err-tell-clause-tells c = λ ring before packets keeps waits.
     let p = err_from_is_err_and c.from_residual.result c.from_residual.ensures.1 in
     let up = c.loop-each.invariant.3 ring before packets keeps waits in
     let lt : c.loop-each.each-index < length c.args.waiting.now = omega arith in
-    rw (p.1, p.2) (stops c.args.shows ring before packets (map newest c.args.trials.now) c.args.waiting.now _
+    rw (p.1, p.2) (stops c.args.asks ring before packets (map newest c.args.trials.now) c.args.waiting.now _
     c.loop-each.each-index c.each-item.result _ _ _ _ _ (element-drop c.args.waiting.now c.loop-each.each-index c.each-item.result lt c.each-item.is)
     (rw c.newest_at-newest.ensures at (c.in_err-tell.ensures.tells ring)) up)
 
@@ -26,12 +26,12 @@ loop-each-preserved c =
       one.groups ∙ was.1,
       omega (arith, count, more),
       λ ring before packets keeps waits.
-          goes c.args.shows ring before packets (map newest c.args.trials.now) c.args.waiting.now c.loop-each.each-index
+          goes c.args.asks ring before packets (map newest c.args.trials.now) c.args.waiting.now c.loop-each.each-index
           c.each-item.result _ _ _ _ _ (element-drop c.args.waiting.now c.loop-each.each-index c.each-item.result lt c.each-item.is)
           (rw c.newest_at-newest.ensures at (one.tells ring)) (was.3 ring before packets keeps waits),
     )
 
 pub returns-clause-tells : goal.returns-clause-tells
 returns-clause-tells c = λ ring before packets keeps waits.
-    is-done c.args.shows ring before packets (map newest c.args.trials.now) c.args.waiting.now c.loop-each.each-index _ _ _
+    is-done c.args.asks ring before packets (map newest c.args.trials.now) c.args.waiting.now c.loop-each.each-index _ _ _
     (drop_all c.loop-each.each-index c.args.waiting.now c.loop-each-test.false) (c.loop-each.invariant.3 ring before packets keeps waits)

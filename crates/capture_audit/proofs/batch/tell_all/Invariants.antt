@@ -14,6 +14,6 @@ invariant-loop-each l =
     × (l.auditor.groups ≡ l.initial.auditor.groups)
     × (l.auditor.tally.all ≡ l.initial.auditor.tally.all + l.each-index)
     × ((ring : Ring) (before : List Unwrapped) (packets : List Seen) → Keeps ring before l.initial.auditor
-    → AreWaiting l.shows ring (entries ring before) (map newest l.trials) (number_behind before) packets l.waiting
-    → AreToldUpTo l.shows ring before packets (map newest l.trials) l.waiting l.each-index l.auditor
+    → AreWaiting l.asks ring (entries ring before) (map newest l.trials) (number_behind before) packets l.waiting
+    → AreToldUpTo l.asks ring before packets (map newest l.trials) l.waiting l.each-index l.auditor
     l.initial.text.items l.text.items)

@@ -8,6 +8,6 @@ returns c = record {
   unwrapped = unwrapped-same;
   known = entries-same;
   verdict = λ ring keys packets v all. verdict-same ring keys packets v all;
-  lines = λ shows ring keys packets all. lines-same ring keys shows packets all;
-  report = λ shows ring keys packets v ending all. report-same ring keys shows packets v ending all;
+  lines = λ asks ring keys packets all. lines-same ring keys asks packets all;
+  report = λ asks ring keys packets v ending all. report-same ring keys asks packets v ending all;
 }

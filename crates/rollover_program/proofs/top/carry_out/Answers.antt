@@ -36,3 +36,16 @@ returns-in-Audit-default-false-clause-audited g c = λ asks draws is.
     let both : Audit asks draws ≡ Audit asked.asks asked.draws = sym is ∙ asked.is in
     let same : asks ≡ asked.asks = cc in
     rw (same, sym asked.asks-is) c.audit.ensures.complete
+
+-- of orders that write at their end alone nothing is said
+pub returns-in-Make-clause-turned : goal.returns-in-Make-clause-turned
+returns-in-Make-clause-turned g c = rw c.in-Make.is tt
+
+pub returns-in-Try-clause-turned : goal.returns-in-Try-clause-turned
+returns-in-Try-clause-turned g c = rw c.in-Try.is tt
+
+pub returns-in-Audit-default-true-clause-turned : goal.returns-in-Audit-default-true-clause-turned
+returns-in-Audit-default-true-clause-turned g c = rw c.in-Audit-default-true.is tt
+
+pub returns-in-Audit-default-false-clause-turned : goal.returns-in-Audit-default-false-clause-turned
+returns-in-Audit-default-false-clause-turned g c = rw c.in-Audit-default-false.is tt

@@ -1,4 +1,4 @@
-use Rattle.std.proofs.Common.{ap, sym, refl, inr, ◌∙◌}
+use Rattle.std.proofs.Common.{ap, sym, refl, inl, inr, ◌∙◌}
 use Rattle.std.specs.Prelude.{Err}
 use Rattle.rollover_program.specs.declared.status.Status.TheVariants.{ReadFault, WriteFault, Forged}
 use Rattle.rollover_program.specs.declared.words.Order.TheVariants.{Roll}
@@ -15,7 +15,7 @@ pub returns-in-Ok-clause-refused : goal.returns-in-Ok-clause-refused
 returns-in-Ok-clause-refused g c = λ usage. absurd (usage c.in-Ok.ensures.ok.0)
 
 pub returns-in-Ok-clause-untouched : goal.returns-in-Ok-clause-untouched
-returns-in-Ok-clause-untouched g c = λ e. absurd (c.carry_out.ensures.carried.no_usage e)
+returns-in-Ok-clause-untouched g c = λ usage. absurd (usage c.in-Ok.ensures.ok.0)
 
 pub returns-in-Ok-clause-ordered : goal.returns-in-Ok-clause-ordered
 returns-in-Ok-clause-ordered g c = λ taken. by_no_usage _ taken
@@ -27,6 +27,10 @@ returns-in-Ok-clause-named g c = λ order numbered is.
 pub returns-in-Ok-clause-carried : goal.returns-in-Ok-clause-carried
 returns-in-Ok-clause-carried g c = λ order asked.
     rw (one_order _ order c.in-Ok.order asked c.in-Ok.ensures.ok) c.carry_out.ensures.carried.ends
+
+pub returns-in-Ok-clause-turned : goal.returns-in-Ok-clause-turned
+returns-in-Ok-clause-turned g c = λ order asked.
+    rw (one_order _ order c.in-Ok.order asked c.in-Ok.ensures.ok) (inr c.carry_out.ensures.turned)
 
 pub returns-in-Ok-clause-unread : goal.returns-in-Ok-clause-unread
 returns-in-Ok-clause-unread g c = λ n asked.
@@ -53,7 +57,7 @@ returns-in-Err-clause-refused g c = λ usage.
     either c.in-Err.refusal _ c.status_of_refusal.ensures
 
 pub returns-in-Err-clause-untouched : goal.returns-in-Err-clause-untouched
-returns-in-Err-clause-untouched g c = λ e. (refl, refl)
+returns-in-Err-clause-untouched g c = λ usage. (refl, refl)
 
 pub returns-in-Err-clause-ordered : goal.returns-in-Err-clause-ordered
 returns-in-Err-clause-ordered g c = λ taken. by_no_usage _ taken
@@ -74,6 +78,15 @@ returns-in-Err-clause-carried g c = λ order asked.
     (nothing_done c.law_tidy_runs_are_promised.ensures c.law_lines_leave_a_tidy_world.ensures.start
     c.law_tidy_worlds_of_two_groups_are_promised.ensures
     c.law_groups_of_tidy_worlds_are_sound.ensures.start _ _ order)
+
+pub returns-in-Err-clause-turned : goal.returns-in-Err-clause-turned
+returns-in-Err-clause-turned g c = λ order asked.
+    inl (
+      refl,
+      refl,
+      memory _ c.in-Err.refusal (λ is. c.in-Err.ensures.usage (ap (λ f. Err f) is)) _ order
+          c.status_of_refusal.ensures asked,
+    )
 
 pub returns-in-Err-clause-unread : goal.returns-in-Err-clause-unread
 returns-in-Err-clause-unread g c = λ n asked. refl

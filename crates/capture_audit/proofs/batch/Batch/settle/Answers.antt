@@ -11,7 +11,7 @@ use Rattle.capture_audit.proofs.Standing.{stops-before, waits-found, writes-all}
 use Rattle.capture_audit.proofs.batch.Batch.settle.Goals as goal
 
 pub returns-in_err-tell_all-clause-settles : goal.returns-in_err-tell_all-clause-settles
-returns-in_err-tell_all-clause-settles c c' = λ shows ring before packets written stands.
+returns-in_err-tell_all-clause-settles c c' = λ asks ring before packets written stands.
     let p = err_from_is_err_and c'.from_residual.result c'.from_residual.ensures.1 in
     let prepared = c'.prepared.ensures (entries ring before) stands.keeps.holds.known in
     let trials = c'.deref_mut.ensures.value in
@@ -23,15 +23,15 @@ returns-in_err-tell_all-clause-settles c c' = λ shows ring before packets writt
     ∙ c'.run_trials.ensures.answers
     ∙ ap (λ (ks : List (List ℕ)). map (answer ks) c'.deref_mut.result.now) prepared
     ∙ ap (λ (ts : List Trial). answers (entries ring before) ts) trials in
-    let waits = waits-found shows ring before packets written c'.args.auditor.now c'.args.self.now stands
+    let waits = waits-found asks ring before packets written c'.args.auditor.now c'.args.self.now stands
     (map newest c'.deref-2.result.now) c'.deref.result.now all waiting in
-    rw (p.1, p.2) (stops-before shows ring before packets written c'.args.auditor.now c'.args.self.now stands
-    c'.in_err-tell_all.field-0.0 c'.args.self.now.shows c'.tell_all.new.auditor
+    rw (p.1, p.2) (stops-before asks ring before packets written c'.args.auditor.now c'.args.self.now stands
+    c'.in_err-tell_all.field-0.0 c'.args.self.now.asks c'.tell_all.new.auditor
     (record c'.args.self.now { trials = with_items c'.args.self.now.trials c'.run_trials.new.trials; text = c'.tell_all.new.text })
     c'.args.self.now.text.items c'.tell_all.new.text.items (c.K.Sink.held c'.args.sink.now) (c'.in_err-tell_all.ensures.tells ring before packets stands.keeps waits))
 
 pub returns-clause-settles : goal.returns-clause-settles
-returns-clause-settles c c' = λ shows ring before packets written stands.
+returns-clause-settles c c' = λ asks ring before packets written stands.
     let prepared = c'.prepared.ensures (entries ring before) stands.keeps.holds.known in
     let trials = c'.deref_mut.ensures.value in
     let tried = c'.deref-2.ensures.value in
@@ -42,9 +42,9 @@ returns-clause-settles c c' = λ shows ring before packets written stands.
     ∙ c'.run_trials.ensures.answers
     ∙ ap (λ (ks : List (List ℕ)). map (answer ks) c'.deref_mut.result.now) prepared
     ∙ ap (λ (ts : List Trial). answers (entries ring before) ts) trials in
-    let waits = waits-found shows ring before packets written c'.args.auditor.now c'.args.self.now stands
+    let waits = waits-found asks ring before packets written c'.args.auditor.now c'.args.self.now stands
     (map newest c'.deref-2.result.now) c'.deref.result.now all waiting in
     let told = c'.in_ok-tell_all.ensures.tells ring before packets stands.keeps waits in
-    writes-all shows ring before packets written c'.args.auditor.now c'.args.self.now stands c'.tell_all.new.auditor c'.write.new.self
-    c'.args.self.now.text.items c'.tell_all.new.text.items (c.K.Sink.held c'.args.sink.now) (c.K.Sink.held c'.write.new.sink) c'.write.result refl told c'.write.ensures.writes c'.write.ensures.shows
+    writes-all asks ring before packets written c'.args.auditor.now c'.args.self.now stands c'.tell_all.new.auditor c'.write.new.self
+    c'.args.self.now.text.items c'.tell_all.new.text.items (c.K.Sink.held c'.args.sink.now) (c.K.Sink.held c'.write.new.sink) c'.write.result refl told c'.write.ensures.writes c'.write.ensures.asks
     (c'.write.ensures.waiting ∙ c'.clear.ensures.items) c'.write.ensures.empty

@@ -19,3 +19,6 @@ returns-clause-carried g c = record {
 pub returns-clause-unforged : goal.returns-clause-unforged
 returns-clause-unforged g c = λ line e. c.replay_two.ensures.unforged line
     (caused c.replay_two.result (Forged line) (λ e. cc e) (sym c.status_of_replay.ensures ∙ e))
+
+pub returns-clause-turned : goal.returns-clause-turned
+returns-clause-turned g c = (c.replay_two.result, c.replay_two.ensures.turned, c.status_of_replay.ensures)

@@ -9,4 +9,4 @@ returns-in_default-clause-ends g c =
 
 pub returns-clause-ends : goal.returns-clause-ends
 returns-clause-ends g c = tried c.args.number _ _ _ _ c.run.result
-    (c.new-source.ensures ∙ c.of.ensures ∙ c.in-Ok.ensures) c.run.ensures.ends
+    (c.new-source.ensures ∙ c.of.ensures ∙ c.in-Ok.ensures) c.run.ensures.carried.ends

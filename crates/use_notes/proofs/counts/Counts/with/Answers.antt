@@ -5,7 +5,7 @@ use Rattle.use_notes.proofs.Counting.{counted}
 use Rattle.use_notes.proofs.counts.Counts.with.Goals as goal
 
 pub returns-clause-counted : goal.returns-clause-counted
-returns-clause-counted c = λ fs is found order.
+returns-clause-counted c = λ fs is told found order.
     let made : Counts = record {
       frames = c.more.result;
       low = c.lower.result;
@@ -19,5 +19,5 @@ returns-clause-counted c = λ fs is found order.
       window = c.max-3.result;
       clear = c.more-5.result;
     } in
-    let step : made ≡ counts_with c.args.self.now c.args.first c.args.frame.now = search rules in
-    step ∙ counted fs c.args.frame.now c.args.self.now c.args.first is found order (omega arith)
+    let step : made ≡ counts_with c.args.self.now c.args.novelty c.args.alike c.args.frame.now = search rules in
+    step ∙ counted fs c.args.frame.now c.args.self.now c.args.novelty c.args.alike is told found order (omega arith)
